@@ -8,26 +8,25 @@ use Rattle.csv.specs.declared.parser.Action.TheVariants as act
 use Rattle.csv.specs.declared.parser.State.{State}
 use Rattle.csv.specs.declared.parser.State.TheVariants as st
 use Rattle.memchr.specs.Find.{NoneBefore, Nowhere, Passes, is_byte}
-use Rattle.csv_records.specs.Fields.{AreBare, BeginsBare, IsCut, IsFollowed, IsLast}
-use Rattle.csv_records.specs.Records.{is_whole}
-use Rattle.csv_records.specs.Rows.{Field, config_of, field_rows, is_line_end, is_whole_from, rows_from, rows_of}
+use Rattle.csv_records.specs.Fields.{AreBare, BeginsBare, EndsRow, IsCut, IsFollowed}
+use Rattle.csv_records.specs.Rows.{Field, config_of, field_rows, rows_from, rows_of}
 use Rattle.csv_records.specs.declared.fields.Follows.{Follows}
-use Rattle.csv_records.specs.declared.fields.Follows.TheVariants.{Another, Nothing, Bytes}
+use Rattle.csv_records.specs.declared.fields.Follows.TheVariants.{Another, Nothing, Row}
+use Rattle.csv_records.proofs.RowCuts.{first_field}
 
 -- from the first of two offsets the rows are those from the second
 pub record Leads (d : ℕ) (s : State) (t : List ℕ) (q : Bool) (xs : List ℕ) (r : State) (u : List ℕ) (p : Bool) (ys : List ℕ) : Type 0 where
   pub rows : rows_from d s t q xs ≡ rows_from d r u p ys
-  pub whole : is_whole_from d s xs ≡ is_whole_from d r ys
   pub shorter : length ys ≤ length xs
 
 -- what is cut at the second is cut at the first
 pub cut_along : (d : ℕ) (s : State) (t : List ℕ) (q : Bool) (xs : List ℕ) (r : State) (u : List ℕ) (p : Bool) (ys : List ℕ) (f : Field) (o : Follows) → Leads d s t q xs r u p ys → IsCut d r u p ys f o → IsCut d s t q xs f o
-cut_along d s t q xs r u p ys f (Another rest) l c = record { rows = l.rows ∙ c.rows; whole = l.whole ∙ c.whole; shorter = omega (arith, l.shorter, c.shorter) }
-cut_along d s t q xs r u p ys f Nothing l c = record { rows = l.rows ∙ c.rows; whole = l.whole ∙ c.whole }
-cut_along d s t q xs r u p ys f Bytes l c = l.whole ∙ c
+cut_along d s t q xs r u p ys f (Another rest) l c = record { rows = l.rows ∙ c.rows; shorter = omega (arith, l.shorter, c.shorter) }
+cut_along d s t q xs r u p ys f Nothing l c = l.rows ∙ c
+cut_along d s t q xs r u p ys f Row l c = record { next = c.next; others = c.others; is = l.rows ∙ c.is }
 
 leads_on : (d : ℕ) (s : State) (t : List ℕ) (q : Bool) (xs : List ℕ) (r : State) (u : List ℕ) (p : Bool) (ys : List ℕ) (z : State) (v : List ℕ) (w : Bool) (zs : List ℕ) → Leads d s t q xs r u p ys → Leads d r u p ys z v w zs → Leads d s t q xs z v w zs
-leads_on d s t q xs r u p ys z v w zs a b = record { rows = a.rows ∙ b.rows; whole = a.whole ∙ b.whole; shorter = omega (arith, a.shorter, b.shorter) }
+leads_on d s t q xs r u p ys z v w zs a b = record { rows = a.rows ∙ b.rows; shorter = omega (arith, a.shorter, b.shorter) }
 
 -- ---- a field without quotes
 
@@ -51,23 +50,18 @@ bare_run d t q [] ys h = ap (λ (l : List ℕ). rows_from d st.InField l q ys) (
 bare_run d t q (c ∷ xs) ys h =
     rw (is_bare d c (h 0 (omega arith))) (bare_run d (t ++ c ∷ []) q xs ys (bare_rest d c xs h) ∙ ap (λ (l : List ℕ). rows_from d st.InField l q ys) (append_assoc t (c ∷ []) xs))
 
-bare_whole : (d : ℕ) (xs ys : List ℕ) → AreBare d xs → is_whole_from d st.InField (xs ++ ys) ≡ is_whole_from d st.InField ys
-bare_whole d [] ys h = refl
-bare_whole d (c ∷ xs) ys h = rw (is_bare d c (h 0 (omega arith))) (bare_whole d xs ys (bare_rest d c xs h))
-
 -- up to where the field ends
 pub bare_leads : (d : ℕ) (t : List ℕ) (q : Bool) (text : List ℕ) (end : ℕ) → AreBare d (take end text) → Leads d st.InField t q text st.InField (t ++ take end text) q (drop end text)
 bare_leads d t q text end h =
     let parts = take-append-drop end text in
     record {
       rows = ap (rows_from d st.InField t q) (sym parts) ∙ bare_run d t q (take end text) (drop end text) h;
-      whole = ap (is_whole_from d st.InField) (sym parts) ∙ bare_whole d (take end text) (drop end text) h;
       shorter = omega (arith, length-drop end text);
     }
 
 pub delimiter_cuts : (d : ℕ) (t : List ℕ) (q : Bool) (rest : List ℕ) (c : ℕ) → c ≡ d → IsFollowed d st.InField t q (c ∷ rest) (record { text = t; is_quoted = q }) rest
 delimiter_cuts d t q rest c e =
-    record { rows = rw (eq-eqb c d e) refl; whole = rw (eq-eqb c d e) refl; shorter = omega arith }
+    record { rows = rw (eq-eqb c d e) refl; shorter = omega arith }
 
 abbrev ends_row : ℕ → State × Action
 ends_row c = (cond (c == 13) st.AfterCr st.StartRecord, act.EndRecord)
@@ -86,40 +80,39 @@ or_true c (inr e) = rw (eq-eqb c 10 e) (right_true (c == 13))
 is_row_end : (d c : ℕ) → c ≢ d → (c ≡ 13) ⊎ (c ≡ 10) → in_field (config_of d) c ≡ ends_row c
 is_row_end d c other ends = ends_step (c == d) (c == 13) (c == 10) (ne_eqb c d other) (or_true c ends)
 
--- a row that ended leaves none
-after_none : (d : ℕ) (b : Bool) → rows_from d (cond b st.AfterCr st.StartRecord) [] false [] ≡ []
-after_none d true = refl
-after_none d false = refl
+-- where a carriage return ended a row, as where a record may start
+after_return : (d : ℕ) (xs : List ℕ) → rows_from d st.AfterCr [] false xs ≡ rows_of d xs
+after_return d [] = refl
+after_return d (c ∷ xs) = by_feed (c == 10) refl
+  where
+    by_feed : (b : Bool) → (c == 10) ≡ b → rows_from d st.AfterCr [] false (c ∷ xs) ≡ rows_of d (c ∷ xs)
+    by_feed true e = rw (e, right_true (c == 13)) refl
+    by_feed false e = rw e refl
 
-after_feed : (d c : ℕ) (b : Bool) → (c == 13) ≡ b → (b && true) ≡ true → rows_from d (cond b st.AfterCr st.StartRecord) [] false (10 ∷ []) ≡ []
-after_feed d c true e h = refl
-after_feed d c false e h = absurd cc
+rows_after : (d : ℕ) (b : Bool) (xs : List ℕ) → rows_from d (cond b st.AfterCr st.StartRecord) [] false xs ≡ rows_of d xs
+rows_after d true xs = after_return d xs
+rows_after d false xs = refl
 
-and_right : (a b : Bool) → (a && b) ≡ true → b ≡ true
-and_right true b h = h
-and_right false b h = absurd cc
-
-and_left : (a b : Bool) → (a && b) ≡ true → (a && true) ≡ true
-and_left true b h = refl
-and_left false b h = absurd cc
-
-none_after : (d c : ℕ) (rest : List ℕ) → is_line_end c rest ≡ true → rows_from d (cond (c == 13) st.AfterCr st.StartRecord) [] false rest ≡ []
-none_after d c [] h = after_none d (c == 13)
-none_after d c (x ∷ []) h =
-    let ten : x ≡ 10 = eqb-true x 10 (and_right (c == 13) (x == 10) h) in
-    ap (λ y. rows_from d (cond (c == 13) st.AfterCr st.StartRecord) [] false (y ∷ [])) ten ∙ after_feed d c (c == 13) refl (and_left (c == 13) (x == 10) h)
-none_after d c (x ∷ y ∷ rest) h = absurd cc
-
-pub row_ends : (d : ℕ) (t : List ℕ) (q : Bool) (c : ℕ) (rest : List ℕ) → c ≢ d → (c ≡ 13) ⊎ (c ≡ 10) → is_line_end c rest ≡ true → IsLast d st.InField t q (c ∷ rest) (record { text = t; is_quoted = q })
-row_ends d t q c rest other ends h =
+-- a row that ends, and those of what stands behind it
+row_ended : (d : ℕ) (t : List ℕ) (q : Bool) (c : ℕ) (rest : List ℕ) → c ≢ d → (c ≡ 13) ⊎ (c ≡ 10) → rows_from d st.InField t q (c ∷ rest) ≡ (record { text = t; is_quoted = q } ∷ []) ∷ rows_of d rest
+row_ended d t q c rest other ends =
     let f : Field = record { text = t; is_quoted = q } in
-    record {
-      rows = rw (is_row_end d c other ends) (ap (λ (rows : List (List Field)). (f ∷ []) ∷ rows) (none_after d c rest h));
-      whole = rw (is_row_end d c other ends) h;
-    }
+    rw (is_row_end d c other ends) (ap (λ (rows : List (List Field)). (f ∷ []) ∷ rows) (rows_after d (c == 13) rest))
 
-pub bytes_follow : (d : ℕ) (c : ℕ) (rest : List ℕ) → c ≢ d → (c ≡ 13) ⊎ (c ≡ 10) → is_line_end c rest ≡ false → is_whole_from d st.InField (c ∷ rest) ≡ false
-bytes_follow d c rest other ends h = rw (is_row_end d c other ends) h
+pub row_ends : (d : ℕ) (t : List ℕ) (q : Bool) (c : ℕ) (rest : List ℕ) → c ≢ d → (c ≡ 13) ⊎ (c ≡ 10) → rows_of d rest ≡ [] → rows_from d st.InField t q (c ∷ rest) ≡ (record { text = t; is_quoted = q } ∷ []) ∷ []
+row_ends d t q c rest other ends none =
+    let f : Field = record { text = t; is_quoted = q } in
+    row_ended d t q c rest other ends ∙ ap (λ (rows : List (List Field)). (f ∷ []) ∷ rows) none
+
+pub row_follows : (d : ℕ) (t : List ℕ) (q : Bool) (c : ℕ) (rest start : List ℕ) → c ≢ d → (c ≡ 13) ⊎ (c ≡ 10) → rows_of d rest ≡ field_rows d start → EndsRow (record { text = t; is_quoted = q }) (rows_from d st.InField t q (c ∷ rest))
+row_follows d t q c rest start other ends same =
+    let f : Field = record { text = t; is_quoted = q } in
+    let some = first_field d start in
+    record {
+      next = some.0 ∷ some.1;
+      others = some.2;
+      is = row_ended d t q c rest other ends ∙ ap (λ (rows : List (List Field)). (f ∷ []) ∷ rows) (same ∙ some.3);
+    }
 
 -- ---- a field in quotes
 
@@ -133,10 +126,6 @@ quoted_run : (d : ℕ) (t xs ys : List ℕ) → Unquoted xs → rows_from d st.I
 quoted_run d t [] ys h = ap (λ (l : List ℕ). rows_from d st.InQuoted l true ys) (sym (append-nil t))
 quoted_run d t (c ∷ xs) ys h =
     rw (ne_eqb c 34 (h 0 (omega arith))) (quoted_run d (t ++ c ∷ []) xs ys (λ k below. h (suc k) (omega arith)) ∙ ap (λ (l : List ℕ). rows_from d st.InQuoted l true ys) (append_assoc t (c ∷ []) xs))
-
-quoted_whole : (d : ℕ) (xs ys : List ℕ) → Unquoted xs → is_whole_from d st.InQuoted (xs ++ ys) ≡ is_whole_from d st.InQuoted ys
-quoted_whole d [] ys h = refl
-quoted_whole d (c ∷ xs) ys h = rw (ne_eqb c 34 (h 0 (omega arith))) (quoted_whole d xs ys (λ k below. h (suc k) (omega arith)))
 
 -- up to the next quote and past it
 pub record IsNextQuote (xs : List ℕ) (quote : ℕ) : Type 0 where
@@ -153,47 +142,43 @@ quote_leads d t xs quote next =
     next.found.0.before k (omega arith) (omega (arith, length-take quote xs)) (eq-eqb (get_or xs k 0) 34 (sym (get_or-take quote xs k 0 (omega (arith, length-take quote xs))) ∙ e)) in
     record {
       rows = ap (rows_from d st.InQuoted t true) parts ∙ quoted_run d t front (34 ∷ back) plain;
-      whole = ap (is_whole_from d st.InQuoted) parts ∙ quoted_whole d front (34 ∷ back) plain;
       shorter = omega (arith, length-drop (quote + 1) xs);
     }
 
 -- no quote follows
-pub quoted_last : (d : ℕ) (t xs : List ℕ) → Nowhere (Passes (is_byte 34) xs) 0 (length xs) → IsLast d st.InQuoted t true xs (record { text = t ++ xs; is_quoted = true })
+pub quoted_last : (d : ℕ) (t xs : List ℕ) → Nowhere (Passes (is_byte 34) xs) 0 (length xs) → rows_from d st.InQuoted t true xs ≡ (record { text = t ++ xs; is_quoted = true } ∷ []) ∷ []
 quoted_last d t xs nowhere =
     let plain : Unquoted xs = λ k below e. nowhere k (omega arith) below (eq-eqb (get_or xs k 0) 34 e) in
-    record {
-      rows = ap (rows_from d st.InQuoted t true) (sym (append-nil xs)) ∙ quoted_run d t xs [] plain;
-      whole = ap (is_whole_from d st.InQuoted) (sym (append-nil xs)) ∙ quoted_whole d xs [] plain;
-    }
+    ap (rows_from d st.InQuoted t true) (sym (append-nil xs)) ∙ quoted_run d t xs [] plain
 
 -- a quote after a quote
 pub second_quote : (d : ℕ) (t xs : List ℕ) → Leads d st.AfterQuote t true (34 ∷ xs) st.InQuoted (t ++ 34 ∷ []) true xs
-second_quote d t xs = record { rows = refl; whole = refl; shorter = omega arith }
+second_quote d t xs = record { rows = refl; shorter = omega arith }
 
 -- no quote after a quote
 pub after_quote : (d : ℕ) (t xs : List ℕ) → BeginsBare xs → Leads d st.AfterQuote t true xs st.InField t true xs
-after_quote d t [] h = record { rows = refl; whole = refl; shorter = omega arith }
-after_quote d t (c ∷ xs) h = record { rows = rw (ne_eqb c 34 h) refl; whole = rw (ne_eqb c 34 h) refl; shorter = omega arith }
+after_quote d t [] h = record { rows = refl; shorter = omega arith }
+after_quote d t (c ∷ xs) h = record { rows = rw (ne_eqb c 34 h) refl; shorter = omega arith }
 
 -- ---- the beginning of a field
 
 pub starts_bare : (d : ℕ) (t : List ℕ) (q : Bool) (xs : List ℕ) → BeginsBare xs → Leads d st.StartField t q xs st.InField t q xs
-starts_bare d t q [] h = record { rows = refl; whole = refl; shorter = omega arith }
-starts_bare d t q (c ∷ xs) h = record { rows = rw (ne_eqb c 34 h) refl; whole = rw (ne_eqb c 34 h) refl; shorter = omega arith }
+starts_bare d t q [] h = record { rows = refl; shorter = omega arith }
+starts_bare d t q (c ∷ xs) h = record { rows = rw (ne_eqb c 34 h) refl; shorter = omega arith }
 
 pub starts_quoted : (d : ℕ) (xs : List ℕ) → Leads d st.StartField [] false (34 ∷ xs) st.InQuoted [] true xs
-starts_quoted d xs = record { rows = refl; whole = refl; shorter = omega arith }
+starts_quoted d xs = record { rows = refl; shorter = omega arith }
 
 -- ---- the beginning of a row
 
 line_byte : (c : ℕ) (b : Bool) → ((c == 13) || (c == 10)) ≡ b → (c ≢ 13) → (c ≢ 10) → b ≡ false
 line_byte c b e p q = sym e ∙ rw (ne_eqb c 13 p, ne_eqb c 10 q) refl
 
-pub row_starts : (d c : ℕ) (xs : List ℕ) → c ≢ 13 → c ≢ 10 → (rows_of d (c ∷ xs) ≡ field_rows d (c ∷ xs)) × (is_whole d (c ∷ xs) ≡ is_whole_from d st.StartField (c ∷ xs))
-row_starts d c xs p q = (rw (ne_eqb c 13 p, ne_eqb c 10 q) refl, rw (ne_eqb c 13 p, ne_eqb c 10 q) refl)
+pub row_starts : (d c : ℕ) (xs : List ℕ) → c ≢ 13 → c ≢ 10 → rows_of d (c ∷ xs) ≡ field_rows d (c ∷ xs)
+row_starts d c xs p q = rw (ne_eqb c 13 p, ne_eqb c 10 q) refl
 
-pub line_bytes : (d c : ℕ) (xs : List ℕ) → (c ≡ 13) ⊎ (c ≡ 10) → (rows_of d (c ∷ xs) ≡ rows_of d xs) × (is_whole d (c ∷ xs) ≡ is_whole d xs)
-line_bytes d c xs h = (rw (or_true c h) refl, rw (or_true c h) refl)
+pub line_bytes : (d c : ℕ) (xs : List ℕ) → (c ≡ 13) ⊎ (c ≡ 10) → rows_of d (c ∷ xs) ≡ rows_of d xs
+line_bytes d c xs h = rw (or_true c h) refl
 
 pub at_front : (P : List ℕ → Type 0) (xs : List ℕ) → 1 ≤ length xs → P (get_or xs 0 0 ∷ drop 1 xs) → P xs
 at_front P [] some h = absurd (omega arith)
@@ -219,12 +204,22 @@ quote_closes d text buf rest after old quote f o leads found is old_is cut =
     cut_along d st.InQuoted [] true text st.AfterQuote front true (drop (quote + 1) rest) f o first (subst (λ (l : List ℕ). IsCut d st.AfterQuote front true l f o) is at)
 
 pub quote_lacks : (d : ℕ) (text buf rest new : List ℕ) → Leads d st.InQuoted [] true text st.InQuoted buf true rest → Nowhere (Passes (is_byte 34) rest) 0 (length rest) → new ≡ buf ++ rest
-    → IsLast d st.InQuoted [] true text (record { text = new; is_quoted = true })
+    → rows_from d st.InQuoted [] true text ≡ (record { text = new; is_quoted = true } ∷ []) ∷ []
 quote_lacks d text buf rest new leads nowhere new_is =
-    subst (λ (l : List ℕ). IsLast d st.InQuoted [] true text (record { text = l; is_quoted = true })) (sym new_is)
+    subst (λ (l : List ℕ). IsCut d st.InQuoted [] true text (record { text = l; is_quoted = true }) Nothing) (sym new_is)
     (cut_along d st.InQuoted [] true text st.InQuoted buf true rest (record { text = buf ++ rest; is_quoted = true }) Nothing leads (quoted_last d buf rest nowhere))
 
 -- a text that begins with a quote
 pub cut_in_quotes : (d : ℕ) (text rest : List ℕ) (f : Field) (o : Follows) → text ≡ 34 ∷ rest → IsCut d st.InQuoted [] true rest f o → IsCut d st.StartField [] false text f o
 cut_in_quotes d text rest f o is cut =
     subst (λ (l : List ℕ). IsCut d st.StartField [] false l f o) (sym is) (cut_along d st.StartField [] false (34 ∷ rest) st.InQuoted [] true rest f o (starts_quoted d rest) cut)
+
+-- ---- whether there are bytes
+
+pub is_nil : (xs : List ℕ) (b : Bool) → b ≡ (length xs == 0) → b ≡ true → xs ≡ []
+is_nil [] b is h = refl
+is_nil (x ∷ xs) b is h = absurd (let e : length (x ∷ xs) ≡ 0 = eqb-true (length (x ∷ xs)) 0 (sym is ∙ h) in omega (arith, e))
+
+pub not_nil : (xs : List ℕ) (b : Bool) → b ≡ (length xs == 0) → b ≡ false → xs ≢ []
+not_nil [] b is h none = let e : true ≡ false = sym is ∙ h in cc
+not_nil (x ∷ xs) b is h none = cc

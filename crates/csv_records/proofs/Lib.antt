@@ -4,4 +4,3 @@ mod Marks
 pub mod ReadLaws
 pub mod RowCuts
 pub mod Walking
-pub mod WholeLaws

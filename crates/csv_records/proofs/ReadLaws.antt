@@ -6,8 +6,8 @@ use Rattle.csv.specs.declared.parser.Action.{Action}
 use Rattle.csv.specs.declared.parser.Action.TheVariants as act
 use Rattle.csv.specs.declared.parser.State.{State}
 use Rattle.csv.specs.declared.parser.State.TheVariants as st
-use Rattle.csv_records.specs.Laws.{AreNext, RowsAreRead, WholeRecordsHaveOneRow, texts_of}
-use Rattle.csv_records.specs.Rows.{Field, config_of, is_line_end, is_whole_from, joined, quoted_after, rows_from, rows_of}
+use Rattle.csv_records.specs.Laws.{AreNext, RowsAreRead, texts_of}
+use Rattle.csv_records.specs.Rows.{Field, config_of, joined, quoted_after, rows_from, rows_of}
 use Rattle.csv_records.proofs.RowCuts.{some_row, step_inside}
 
 -- what is read next, after these fields of the row at hand

@@ -1,6 +1,6 @@
 -- Worked cases of the definitions, each a theorem.
 use Rattle.std.specs.Prelude.{◌≡◌, ℕ, List, [], ◌∷◌, Bool, true, false, codes, refl}
-use Rattle.csv_records.specs.Records.{is_whole, records_of}
+use Rattle.csv_records.specs.Records.{records_of}
 use Rattle.csv_records.specs.Rows.{Field, rows_of}
 
 abbrev bare : List ℕ → Field
@@ -29,9 +29,13 @@ quotes-are-told = refl
 pub empty-line-has-no-row : rows_of 44 (codes "\r\n") ≡ []
 empty-line-has-no-row = refl
 
--- a carriage return that ends a row inside of a record
-pub return-inside : is_whole 44 (codes "a\rb\n") ≡ false
+-- a carriage return ends a row, but no record, which so has two
+pub return-inside : rows_of 44 (codes "a\rb\n") ≡ (bare (codes "a") ∷ []) ∷ (bare (codes "b") ∷ []) ∷ []
 return-inside = refl
 
-pub return-at-end : is_whole 44 (codes "a\r\n") ≡ true
-return-at-end = refl
+pub one-record : records_of 44 (codes "a\rb\n") ≡ codes "a\rb\n" ∷ []
+one-record = refl
+
+-- returns that no bytes follow end one row
+pub returns-at-end : rows_of 44 (codes "a\r\r\n") ≡ (bare (codes "a") ∷ []) ∷ []
+returns-at-end = refl

@@ -1,10 +1,10 @@
 -- The laws of records and rows.
-use Rattle.std.specs.Prelude.{◌≡◌, ◌≤◌, ℕ, List, [], ◌∷◌, ◌++◌, length, map, true, false, Option, None, Some}
+use Rattle.std.specs.Prelude.{◌≡◌, ℕ, List, [], ◌∷◌, ◌++◌, map, false, Option, None, Some}
 use Rattle.std.specs.List.{concat}
 use Rattle.csv.specs.Machine.{Read, next_record}
 use Rattle.csv.specs.declared.parser.State.{State}
 use Rattle.csv.specs.declared.parser.State.TheVariants as st
-use Rattle.csv_records.specs.Records.{is_whole, records_of}
+use Rattle.csv_records.specs.Records.{records_of}
 use Rattle.csv_records.specs.Rows.{Field, config_of, rows_from, rows_of, state_after}
 
 -- the fields of a row, as `csv` gives them
@@ -25,6 +25,3 @@ CutsRows = (delimiter : ℕ) (xs ys : List ℕ) → state_after delimiter st.Sta
 
 abbrev pub RecordsAreParts : Type 0
 RecordsAreParts = (delimiter : ℕ) (bytes : List ℕ) → concat (records_of delimiter bytes) ≡ bytes
-
-abbrev pub WholeRecordsHaveOneRow : Type 0
-WholeRecordsHaveOneRow = (delimiter : ℕ) (bytes : List ℕ) → is_whole delimiter bytes ≡ true → length (rows_of delimiter bytes) ≤ 1

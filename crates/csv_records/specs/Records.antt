@@ -1,10 +1,10 @@
 -- A text is cut into records: after each line feed where a record may start.
-use Rattle.std.specs.Prelude.{ℕ, List, [], ◌∷◌, ◌==◌, ◌&&◌, Bool, true, false, if◌then◌else◌}
+use Rattle.std.specs.Prelude.{◌≡◌, ◌<◌, ℕ, List, [], ◌∷◌, ◌==◌, ◌&&◌, Bool, true, false, if◌then◌else◌, length, slice_index}
 use Rattle.std.specs.List.{onto_first}
 use Rattle.csv.specs.Machine.{step}
 use Rattle.csv.specs.declared.parser.State.{State}
 use Rattle.csv.specs.declared.parser.State.TheVariants as st
-use Rattle.csv_records.specs.Rows.{config_of, is_whole_from}
+use Rattle.csv_records.specs.Rows.{config_of}
 use Rattle.csv_records.specs.declared.states.RecordState.{RecordState}
 use Rattle.csv_records.specs.declared.states.RecordState.TheVariants as own
 
@@ -32,9 +32,9 @@ records_from delimiter s (c ∷ rest) =
 abbrev pub records_of : ℕ → List ℕ → List (List ℕ)
 records_of delimiter bytes = records_from delimiter st.StartRecord bytes
 
--- whether a record has a row, and no bytes after it
-abbrev pub is_whole : ℕ → List ℕ → Bool
-is_whole delimiter bytes = is_whole_from delimiter st.StartRecord bytes
+-- before each line feed of the bytes stands a quote
+abbrev pub HasNoPlainFeed : List ℕ → Type 0
+HasNoPlainFeed bytes = (k : ℕ) → k < length bytes → slice_index bytes k ≡ 10 → (j : ℕ) × (j < k) × (slice_index bytes j ≡ 34)
 
 -- the state of `csv`
 abbrev pub state_at : RecordState → State

@@ -1,7 +1,7 @@
 -- The rows of a text, after the machine of `csv`: what it reads, and whether a field began with a quote.
-use Rattle.std.specs.Prelude.{ℕ, List, [], ◌∷◌, ◌==◌, ◌&&◌, ◌||◌, Bool, true, false, None, if◌then◌else◌}
+use Rattle.std.specs.Prelude.{ℕ, List, [], ◌∷◌, ◌||◌, Bool, true, false, None, if◌then◌else◌}
 use Rattle.std.specs.List.{onto_first}
-use Rattle.csv.specs.Machine.{ends_at_end, field_after, is_end, step}
+use Rattle.csv.specs.Machine.{ends_at_end, field_after, step}
 use Rattle.csv.specs.declared.parser.Action.{Action}
 use Rattle.csv.specs.declared.parser.Action.TheVariants as act
 use Rattle.csv.specs.declared.parser.Config.{Config}
@@ -61,16 +61,3 @@ rows_of delimiter bytes = rows_from delimiter st.StartRecord [] false bytes
 -- the rows of a text that begins where a field does
 abbrev pub field_rows : ℕ → List ℕ → List (List Field)
 field_rows delimiter bytes = rows_from delimiter st.StartField [] false bytes
-
--- whether nothing follows the byte that ends a row, but a line feed after a carriage return
-abbrev pub is_line_end : ℕ → List ℕ → Bool
-is_line_end c [] = true
-is_line_end c (x ∷ []) = (c == 13) && (x == 10)
-is_line_end c (x ∷ y ∷ rest) = false
-
--- whether the first row from a state on reaches to the end of the bytes
-abbrev pub is_whole_from : ℕ → State → List ℕ → Bool
-is_whole_from delimiter s [] = true
-is_whole_from delimiter s (c ∷ rest) =
-    let r = step (config_of delimiter) s c in
-    if is_end r.1 then is_line_end c rest else is_whole_from delimiter r.0 rest

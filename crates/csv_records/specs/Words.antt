@@ -3,5 +3,5 @@ pub use Rattle.csv.specs.Machine.{in_field, start_field, start_record, step}
 pub use Rattle.std.specs.List.{onto_first}
 pub use Rattle.csv_records.specs.Lemmas.RecordLaws.{EndsRecord}
 pub use Rattle.csv_records.specs.Fields.{AreBare, BeginsBare, HasNoFront, IsCut}
-pub use Rattle.csv_records.specs.Records.{is_whole, records_of, state_at}
-pub use Rattle.csv_records.specs.Rows.{config_of, field_rows, is_line_end, is_whole_from, rows_of, state_after}
+pub use Rattle.csv_records.specs.Records.{HasNoPlainFeed, records_of, state_at}
+pub use Rattle.csv_records.specs.Rows.{config_of, field_rows, rows_of, state_after}

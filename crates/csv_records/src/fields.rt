@@ -2,7 +2,7 @@
 
 ghost use Rattle.std.specs.Prelude.{◌≡◌, ◌≢◌, ◌⊎◌, ◌∷◌, ◌++◌, ◌≤◌, [], ℕ, List, Bool, true, false, IfNone, IfOk, IfSome, drop, length, take, if◌then◌else◌};
 ghost use Rattle.csv.specs.declared.parser.State.TheVariants.{AfterQuote, InField, InQuoted, StartField};
-ghost use Rattle.csv_records.specs.Words.{AreBare, BeginsBare, HasNoFront, IsCut, field_rows, is_line_end, is_whole, is_whole_from, rows_of};
+ghost use Rattle.csv_records.specs.Words.{AreBare, BeginsBare, HasNoFront, IsCut, field_rows, rows_of};
 
 use crate::delimiter::Delimiter;
 use crate::ends::first_end;
@@ -25,10 +25,10 @@ pub struct CutField<'a> {
 pub enum Follows<'a> {
     /// Another field, with which these bytes begin.
     Another(&'a [u8]),
-    /// Nothing: the row reaches to the end of the text.
+    /// Nothing: the row ends, and no other row follows.
     Nothing,
-    /// The row ends, and bytes stand after it.
-    Bytes,
+    /// Another row.
+    Row,
 }
 
 /// A record from where its row begins. Nothing where it has none, as an empty line.
@@ -36,8 +36,6 @@ pub fn row_start(line: &[u8]) -> &[u8]
     ensures none { result.now ≡ [] → (delimiter : ℕ) → rows_of delimiter line.now ≡ [] }
     ensures row { result.now ≢ [] → (delimiter : ℕ) →
         rows_of delimiter line.now ≡ field_rows delimiter result.now }
-    ensures whole { result.now ≢ [] → (delimiter : ℕ) →
-        is_whole delimiter line.now ≡ is_whole_from delimiter StartField result.now }
     ensures shorter { length result.now ≤ length line.now }
 {
     let mut rest = line;
@@ -142,22 +140,10 @@ fn after_row(delimiter: Delimiter, byte: u8, rest: &[u8]) -> Follows<'_>
     ensures { (before : List ℕ) (quoted : Bool) → IsCut delimiter.byte InField before quoted (byte ∷ rest.now)
         (record { text = before; is_quoted = quoted }) result }
 {
-    if is_last(byte, rest) {
+    if row_start(rest).is_empty() {
         Follows::Nothing
     } else {
-        Follows::Bytes
-    }
-}
-
-/// Whether nothing stands after a row that ends with this byte, but a line feed after a carriage
-/// return.
-fn is_last(byte: u8, rest: &[u8]) -> bool
-    ensures { result ≡ is_line_end byte rest.now }
-{
-    match rest {
-        [] => true,
-        [only] => byte == b'\r' && *only == b'\n',
-        _ => false,
+        Follows::Row
     }
 }
 

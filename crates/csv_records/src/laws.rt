@@ -3,7 +3,7 @@
 //! These functions do nothing when they run. The contract of each is a law over the definitions in
 //! `specs/`, and its proof is the law's proof.
 
-ghost use Rattle.csv_records.specs.Laws.{CutsRows, RecordsAreParts, RowsAreRead, WholeRecordsHaveOneRow};
+ghost use Rattle.csv_records.specs.Laws.{CutsRows, RecordsAreParts, RowsAreRead};
 
 /// The rows of a text are what `csv` reads, one record after another.
 pub fn rows_are_read()
@@ -18,9 +18,4 @@ pub fn rows_are_cut()
 /// A text is its records, one after another.
 pub fn records_are_parts()
     ensures { RecordsAreParts }
-{}
-
-/// A record whose row reaches to its end has one row, or none.
-pub fn whole_records_have_one_row()
-    ensures { WholeRecordsHaveOneRow }
 {}

@@ -1,7 +1,7 @@
 //! Records are cut from the front of a text.
 
 ghost use Rattle.std.specs.Prelude.{◌≡◌, ◌∷◌, ◌++◌, ◌<◌, ◌≤◌, [], IfNone, IfSome, drop, length, take};
-ghost use Rattle.csv_records.specs.Words.{EndsRecord, records_of, rows_of};
+ghost use Rattle.csv_records.specs.Words.{EndsRecord, HasNoPlainFeed, records_of, rows_of};
 
 use crate::delimiter::Delimiter;
 use crate::states::{RecordState, state_after_line};
@@ -60,6 +60,7 @@ pub fn plain_end(delimiter: Delimiter, text: &[u8]) -> Option<usize>
         take end text.now ∷ records_of delimiter.byte (drop end text.now)) }
     ensures rows { IfSome result (λ end. rows_of delimiter.byte text.now ≡
         rows_of delimiter.byte (take end text.now) ++ rows_of delimiter.byte (drop end text.now)) }
+    ensures none { IfNone result (HasNoPlainFeed text.now) }
 {
     let place = memchr2(b'\n', b'"', text)?;
     if text[place] == b'\n' {

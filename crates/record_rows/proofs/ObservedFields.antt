@@ -1,18 +1,19 @@
 -- The fields of a record are observed, one after another.
-use Rattle.std.proofs.Common.{◌≡◌, ◌<◌, ◌≤◌, ◌+◌, ℕ, suc, List, [], ◌∷◌, ◌++◌, Bool, None, cond, refl, sym, ap, ◌∙◌, subst, length, length-append, map, take, drop, get_or, arith, take_all, drop-cons, set, length-set}
+use Rattle.std.proofs.Common.{◌≡◌, ◌<◌, ◌≤◌, ◌+◌, ℕ, suc, List, [], ◌∷◌, ◌++◌, Bool, false, true, None, cond, refl, sym, ap, ◌∙◌, subst, length, length-append, map, take, drop, get_or, arith, take_all, drop-cons, set, length-set}
 use Rattle.std.specs.List.{AllByRecursion}
 use Rattle.std.proofs.lemmas.Grind.{take_at_read}
-use Rattle.std.proofs.lemmas.List.{drop-set-lt, map-append, take_more_set}
+use Rattle.std.proofs.lemmas.List.{drop-set-lt, map-append, take-append-drop, take_more_set}
 use Rattle.csv_records.specs.Rows.{Field, field_rows, rows_of}
-use Rattle.record_rows.proofs.Reading.{refused_push}
-use Rattle.record_rows.specs.Observed.{AreObserved, IsObserved, IsStep, ObservesField, Step}
-use Rattle.record_rows.specs.Rows.{refused_of}
-use Rattle.record_rows.specs.Walks.{HasWalked, IsNext, ReadsNext, field_of}
+use Rattle.record_rows.proofs.Reading.{none_taken, refused_push}
+use Rattle.record_rows.specs.Observed.{AreObserved, IsObserved, IsStep, IsTakenAs, ObservesField, Step}
+use Rattle.record_rows.specs.Rows.{Takes, refused_of}
+use Rattle.record_rows.specs.Walks.{AreTaken, HasWalked, IsNext, ReadsNext, field_of}
 use Rattle.record_rows.specs.declared.fields.ColumnField.{ColumnField}
 use Rattle.record_rows.specs.declared.fields.FieldWalk.{FieldWalk}
 use Rattle.record_rows.specs.declared.schema.ColumnType.{ColumnType}
 use Rattle.vortex_statistics.specs.Statistics.{known}
 use Rattle.vortex_statistics.specs.declared.column_statistics.ColumnStatistics.{ColumnStatistics}
+use Rattle.vortex_value.specs.Values.Content.{Content}
 
 all_push : (P : Step → Type 0) (steps : List Step) (s : Step) → AllByRecursion P steps → P s → AllByRecursion P (steps ++ s ∷ [])
 all_push P [] s h p = (p, tt)
@@ -83,6 +84,21 @@ more d l columns bytes old_walk walk next old new after s t b n m long h is at p
       stepped = subst (λ (k : ℕ). Stepped l columns k old after (h.steps ++ step ∷ [])) moved (step_more l columns i old new after h.steps next.column (field_of next) s t b is.within long stepped at put seen);
       count = refused_push (map (λ (p : Step). p.flag) h.steps) b n m h.count counted ∙ ap refused_of (sym (map-append (λ (p : Step). p.flag) h.steps (step ∷ [])));
     }
+
+as_taken : (l : Bool) (c : ColumnType) (f : Field) (x : Content) (b : Bool) → IsTakenAs l c f x b → Takes l c f
+as_taken l c f x false h = (false, (x, h))
+as_taken l c f x true h = (true, (h.0, h.1, h.2))
+
+steps_taken : (l : Bool) (steps : List Step) (more : List ColumnType) → AllByRecursion (IsStep l) steps → AreTaken l (map (λ (p : Step). p.column) steps ++ more) (map (λ (p : Step). p.field) steps)
+steps_taken l [] more h = none_taken l more
+steps_taken l (s ∷ steps) more h = (as_taken l s.column s.field s.content s.flag h.0.0, steps_taken l steps more h.1)
+
+-- the fields so far are taken
+pub begun_taken : (d : ℕ) (l : Bool) (columns : List ColumnType) (bytes : List ℕ) (walk : FieldWalk) (old new : List ColumnStatistics) (n : ℕ) → (h : Begun d l columns bytes walk old new n) → AreTaken l columns (map (λ (p : Step). p.field) h.steps)
+begun_taken d l columns bytes walk old new n h =
+    let i = walk.place in
+    let parts : map (λ (p : Step). p.column) h.steps ++ drop i columns ≡ columns = ap (λ (cs : List ColumnType). cs ++ drop i columns) (sym h.stepped.columns_are) ∙ take-append-drop i columns in
+    subst (λ (cs : List ColumnType). AreTaken l cs (map (λ (p : Step). p.field) h.steps)) parts (steps_taken l h.steps (drop i columns) h.stepped.each)
 
 -- behind the last one
 pub ended : (d : ℕ) (l : Bool) (columns : List ColumnType) (bytes : List ℕ) (walk last : FieldWalk) (old new : List ColumnStatistics) (n : ℕ) → length old ≡ length columns → (h : Begun d l columns bytes walk old new n) → ReadsNext d columns bytes last (map (λ (p : Step). p.field) h.steps) None

@@ -1,17 +1,15 @@
 -- Fields are read one after another.
-use Rattle.std.proofs.Common.{◌≡◌, ◌≢◌, inl, inr, ◌==◌, true, ◌≤◌, ◌<◌, ◌+◌, ℕ, suc, List, [], ◌∷◌, ◌++◌, Bool, false, Option, None, Some, Result, Ok, Err, cond, refl, sym, ap, ◌∙◌, subst, length, length-append, take, get_or, arith, take_all}
+use Rattle.std.proofs.Common.{◌≡◌, ◌≢◌, ◌==◌, true, ◌≤◌, ◌<◌, ◌+◌, ℕ, suc, List, [], ◌∷◌, ◌++◌, Bool, false, Option, None, Some, Result, Ok, Err, cond, refl, sym, ap, ◌∙◌, subst, length, length-append, take, drop, get_or, arith, take_all}
 use Rattle.std.specs.Prelude.{IfOk, MatchOption, OnOk, is_ok}
 use Rattle.std.proofs.lemmas.Grind.{take_at_read}
 use Rattle.std.proofs.lemmas.List.Sums.{sum_by_push}
-use Rattle.std.proofs.lemmas.List.{length-take-le}
-use Rattle.csv.specs.declared.parser.State.TheVariants as st
-use Rattle.csv_records.specs.Records.{is_whole}
-use Rattle.csv_records.specs.Rows.{Field, field_rows, is_whole_from, rows_of}
+use Rattle.std.proofs.lemmas.List.{length-take-le, take-append-drop}
+use Rattle.csv_records.specs.Rows.{Field, field_rows, rows_of}
+use Rattle.vortex_value.specs.Values.Scalars.{scalar_content}
 use Rattle.vortex_value.specs.declared.scalars.Scalar.{Scalar}
-use Rattle.record_rows.specs.Rows.{AreCells, AreCellsIn, HasFieldAt, HasFields, HasOtherCount, IsRow, IsRowIn, IsTakenIf, IsTested, PushesCell, Refuses, RefusesFields, is_wanted, refused_of}
-use Rattle.record_rows.specs.Walks.{HasWalked, IsNext, ReadsNext, field_of}
+use Rattle.record_rows.specs.Rows.{AreCells, AreCellsIn, HasFields, IsRow, IsRowIn, IsTakenIf, IsTested, PushesCell, Refuses, RefusesFields, RefusesRows, Takes, is_wanted, refused_of}
+use Rattle.record_rows.specs.Walks.{AreTaken, HasWalked, IsNext, ReadsNext, field_of}
 use Rattle.record_rows.specs.declared.errors.RowReadError.{RowReadError}
-use Rattle.record_rows.specs.declared.errors.RowReadError.TheVariants as errors
 use Rattle.record_rows.specs.declared.fields.ColumnField.{ColumnField}
 use Rattle.record_rows.specs.declared.fields.FieldWalk.{FieldWalk}
 use Rattle.record_rows.specs.declared.schema.ColumnType.{ColumnType}
@@ -104,6 +102,31 @@ ended w d l columns bytes walk new row n h none =
     let all : take walk.place columns ≡ columns = take_all walk.place columns (omega (arith, h.walked.place, none.1)) in
     record { fields = h.fields; flags = h.flags; is = none.0; cells = subst (λ (cs : List ColumnType). AreCellsIn w 0 l cs h.fields row h.flags) all h.cells; count = h.count }
 
+-- ---- fields that are taken
+
+field_taken : (w l : Bool) (c : ColumnType) (f : Field) (x : Scalar) (b : Bool) → IsTakenIf w l c f x b → Takes l c f
+field_taken true l c f x false h = (false, (scalar_content x, h.content))
+field_taken true l c f x true h = (true, (h.asked, h.none, h.takes))
+field_taken false l c f x b h = (b, h)
+
+pub none_taken : (l : Bool) (cs : List ColumnType) → AreTaken l cs []
+none_taken l [] = tt
+none_taken l (c ∷ cs) = tt
+
+cells_taken : (w : List Bool) (k : ℕ) (l : Bool) (cs more : List ColumnType) (fs : List Field) (xs : List Scalar) (bs : List Bool) → AreCellsIn w k l cs fs xs bs → AreTaken l (cs ++ more) fs
+cells_taken w k l [] more [] [] [] h = none_taken l more
+cells_taken w k l [] more [] [] (b ∷ bs) h = absurd h
+cells_taken w k l [] more [] (x ∷ xs) bs h = absurd h
+cells_taken w k l [] more (f ∷ fs) xs bs h = absurd h
+cells_taken w k l (c ∷ cs) more [] xs bs h = absurd h
+cells_taken w k l (c ∷ cs) more (f ∷ fs) [] bs h = absurd h
+cells_taken w k l (c ∷ cs) more (f ∷ fs) (x ∷ xs) [] h = absurd h
+cells_taken w k l (c ∷ cs) more (f ∷ fs) (x ∷ xs) (b ∷ bs) h = (field_taken (is_wanted w k) l c f x b h.0, cells_taken w (suc k) l cs more fs xs bs h.1)
+
+pub begun_taken : (w : List Bool) (d : ℕ) (l : Bool) (columns : List ColumnType) (bytes : List ℕ) (walk : FieldWalk) (row : List Scalar) (n : ℕ) → (h : Begun w d l columns bytes walk row n) → AreTaken l columns h.fields
+begun_taken w d l columns bytes walk row n h =
+    subst (λ (cs : List ColumnType). AreTaken l cs h.fields) (take-append-drop walk.place columns) (cells_taken w 0 l (take walk.place columns) (drop walk.place columns) h.fields row h.flags h.cells)
+
 -- ---- the scalar at a place
 
 pub stands_at : {X : Type 0} (xs : List X) (i : ℕ) → i < length xs → (x : X) × (take (i + 1) xs ≡ take i xs ++ x ∷ [])
@@ -136,24 +159,8 @@ whole_rows d l columns line row (Ok None) h = h
 whole_rows d l columns line row (Ok (Some n)) h = is_whole_row d l columns line row n h
 whole_rows d l columns line row (Err e) h = tt
 
-pub refused_row : (d : ℕ) (l : Bool) (columns : List ColumnType) (line start : List ℕ) (fault : RowReadError) → rows_of d line ≡ field_rows d start → is_whole d line ≡ is_whole_from d st.StartField start → RefusesFields d l columns start fault → Refuses d l columns line fault
-refused_row d l columns line start errors.Memory rows same h = tt
-refused_row d l columns line start (errors.Word place found) rows same h =
-    record {
-      field = h.field;
-      column = h.column;
-      within = h.within;
-      is = h.is;
-      stands = elim h.stands [
-        | inl e ↦ inl (same ∙ e)
-        | inr k ↦ inr (subst (HasFieldAt place h.field) (sym rows) k)
-      ];
-      told = h.told;
-      none = h.none;
-      strict = h.strict;
-    }
-refused_row d l columns line start errors.FieldCount rows same h = subst (HasOtherCount columns) (sym rows) h
-refused_row d l columns line start errors.LoneReturn rows same h = same ∙ h
+pub refused_row : (d : ℕ) (l : Bool) (columns : List ColumnType) (line start : List ℕ) (fault : RowReadError) → rows_of d line ≡ field_rows d start → RefusesFields d l columns start fault → Refuses d l columns line fault
+refused_row d l columns line start fault same h = subst (λ (rows : List (List Field)). RefusesRows l columns rows fault) (sym same) h
 
 pub one_at_most : (b : Bool) → cond b 1 0 ≤ 1
 one_at_most true = omega arith

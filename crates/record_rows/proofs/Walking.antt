@@ -1,16 +1,15 @@
 -- The fields of a record are walked.
-use Rattle.std.proofs.Common.{◌≡◌, ◌⊎◌, inl, inr, ◌≤◌, ◌<◌, ◌+◌, ℕ, suc, List, [], ◌∷◌, ◌++◌, Bool, false, None, refl, sym, ap, ◌∙◌, subst, length, length-append, get_or, arith}
-use Rattle.std.proofs.Math.Seq.{get_or-append_seam}
+use Rattle.std.proofs.Common.{◌≡◌, ◌⊎◌, inl, inr, ◌≤◌, ◌<◌, ◌+◌, ℕ, suc, zero, List, [], ◌∷◌, ◌++◌, Bool, false, None, refl, sym, ap, ◌∙◌, subst, length, length-append, drop, append-nil, get_or, arith}
 use denote.Ref.{Bor}
 use Rattle.std.specs.List.{onto_first}
 use Rattle.csv.specs.declared.parser.State.TheVariants as st
-use Rattle.csv_records.specs.Fields.{IsCut}
-use Rattle.csv_records.specs.Rows.{Field, field_rows, is_whole_from}
+use Rattle.csv_records.specs.Fields.{IsCut, IsFollowed}
+use Rattle.csv_records.specs.Rows.{Field, field_rows}
 use Rattle.csv_records.specs.declared.fields.Follows.{Follows}
-use Rattle.csv_records.specs.declared.fields.Follows.TheVariants.{Another, Bytes, Nothing}
+use Rattle.csv_records.specs.declared.fields.Follows.TheVariants.{Another, Nothing, Row}
 use Rattle.csv_records.proofs.RowCuts.{first_field}
-use Rattle.record_rows.specs.Rows.{HasFieldAt, HasOtherCount, RefusesFields, RefusesWord}
-use Rattle.record_rows.specs.Walks.{AreFollowedBy, EndsWalk, HasOtherEnd, HasWalked, IsBefore, IsNext, ReadsNext, field_of, with_front}
+use Rattle.record_rows.specs.Rows.{HasFirstError, IsFirstError, IsUntaken, RefusesFields, RefusesRows, RefusesWord, TellsWord}
+use Rattle.record_rows.specs.Walks.{AreFollowedBy, AreTaken, EndsWalk, HasOtherEnd, HasWalked, IsNext, ReadsNext, field_of, with_front}
 use Rattle.record_rows.specs.declared.errors.RowReadError.{RowReadError}
 use Rattle.record_rows.specs.declared.errors.RowReadError.TheVariants as errors
 use Rattle.record_rows.specs.declared.fields.ColumnField.{ColumnField}
@@ -27,17 +26,17 @@ front_row (f ∷ fs) row rows = ap (onto_first f) (front_row fs row rows)
 
 -- ---- the next field
 
-follow_on : (d : ℕ) (bytes rest : List ℕ) (fields : List Field) (f : Field) (o : Follows) → IsBefore d bytes fields rest → IsCut d st.StartField [] false rest f o → AreFollowedBy d bytes (fields ++ f ∷ []) o
-follow_on d bytes rest fields f (Another next) h cut = record { rows = h.rows ∙ ap (with_front fields) cut.rows ∙ sym (front_push fields f (field_rows d next.now)); whole = h.whole ∙ cut.whole }
-follow_on d bytes rest fields f Nothing h cut = h.rows ∙ ap (with_front fields) cut.rows ∙ front_row fields (f ∷ []) []
-follow_on d bytes rest fields f Bytes h cut = h.whole ∙ cut
+follow_on : (d : ℕ) (bytes rest : List ℕ) (fields : List Field) (f : Field) (o : Follows) → field_rows d bytes ≡ with_front fields (field_rows d rest) → IsCut d st.StartField [] false rest f o → AreFollowedBy d bytes (fields ++ f ∷ []) o
+follow_on d bytes rest fields f (Another next) h cut = h ∙ ap (with_front fields) cut.rows ∙ sym (front_push fields f (field_rows d next.now))
+follow_on d bytes rest fields f Nothing h cut = h ∙ ap (with_front fields) cut ∙ front_row fields (f ∷ []) []
+follow_on d bytes rest fields f Row h cut = (cut.next, cut.others, h ∙ ap (with_front fields) cut.is ∙ front_row fields (f ∷ []) (cut.next ∷ cut.others))
 
 -- a field that was cut is the next one
 pub is_next : (d : ℕ) (columns : List ColumnType) (bytes : List ℕ) (old new : FieldWalk) (fields : List Field) (rest : Bor (List ℕ)) (next : ColumnField) (f : Field) → HasWalked d columns bytes old fields → old.follows ≡ Another rest → old.place < length old.columns.now
     → IsCut old.delimiter.byte st.StartField [] false rest.now f new.follows → new.delimiter ≡ old.delimiter → new.columns ≡ old.columns → new.place ≡ old.place + 1 → next.place ≡ old.place → next.column ≡ get_or old.columns.now old.place next.column → field_of next ≡ f
     → IsNext d columns bytes new fields next
 is_next d columns bytes old new fields rest next f h starts below cut same_delimiter same_columns moved place column field =
-    let before : IsBefore d bytes fields rest.now = subst (AreFollowedBy d bytes fields) starts h.follow in
+    let before : field_rows d bytes ≡ with_front fields (field_rows d rest.now) = subst (AreFollowedBy d bytes fields) starts h.follow in
     let read : IsCut d st.StartField [] false rest.now (field_of next) new.follows = subst (λ (g : Field). IsCut d st.StartField [] false rest.now g new.follows) (sym field) (subst (λ (b : ℕ). IsCut b st.StartField [] false rest.now f new.follows) h.delimiter_is cut) in
     let long : length old.columns.now ≡ length columns = ap length h.columns_are in
     record {
@@ -57,61 +56,100 @@ is_next d columns bytes old new fields rest next f h starts below cut same_delim
 pub is_last : (d : ℕ) (columns : List ColumnType) (bytes : List ℕ) (walk new : FieldWalk) (fields : List Field) → HasWalked d columns bytes walk fields → walk.follows ≡ Nothing → length walk.columns.now ≤ walk.place → ReadsNext d columns bytes new fields None
 is_last d columns bytes walk new fields h none past = (subst (AreFollowedBy d bytes fields) none h.follow, omega (arith, past, h.place, h.within, ap length h.columns_are))
 
+-- ---- the first fault
+
+-- fields that were taken are passed over
+first_after : (l : Bool) (k j : ℕ) (cs : List ColumnType) (done more : List Field) (others : List (List Field)) (fault : RowReadError) → j ≡ k + length done → AreTaken l cs done → IsFirstError l j (drop (length done) cs) more others fault → IsFirstError l k cs (done ++ more) others fault
+first_after l k j cs [] more others fault e taken h =
+    let same : j ≡ k = omega (arith, e) in
+    subst (λ (n : ℕ). IsFirstError l n cs more others fault) same h
+first_after l k j [] (f ∷ done) more others fault e taken h = absurd taken
+first_after l k j (c ∷ cs) (f ∷ done) more others fault e taken h = inr (taken.0, first_after l (suc k) j cs done more others fault (omega (arith, e)) taken.1 h)
+
+fault_told : (l : Bool) (columns : List ColumnType) (rows : List (List Field)) (fault : RowReadError) → HasFirstError l columns rows fault → RefusesRows l columns rows fault
+fault_told l columns rows errors.Memory h = tt
+fault_told l columns rows (errors.Word at found) h = h
+fault_told l columns rows errors.FieldCount h = h
+fault_told l columns rows errors.LoneReturn h = h
+
+first_told : (l : Bool) (columns : List ColumnType) (fields more : List Field) (rows others : List (List Field)) (fault : RowReadError) → rows ≡ (fields ++ more) ∷ others → AreTaken l columns fields → IsFirstError l (length fields) (drop (length fields) columns) more others fault → RefusesRows l columns rows fault
+first_told l columns fields more rows others fault is taken h =
+    fault_told l columns rows fault (subst (λ (r : List (List Field)). HasFirstError l columns r fault) (sym is) (first_after l 0 (length fields) columns fields more others fault (omega arith) taken h))
+
+-- a field too many, a field too few, and another row
+long_fault : (l : Bool) (n : ℕ) (cs : List ColumnType) (i : ℕ) (f : Field) (fs : List Field) (others : List (List Field)) → length cs ≤ i → IsFirstError l n (drop i cs) (f ∷ fs) others errors.FieldCount
+long_fault l n [] zero f fs others past = refl
+long_fault l n [] (suc i) f fs others past = refl
+long_fault l n (c ∷ cs) zero f fs others past = absurd (omega (arith, past))
+long_fault l n (c ∷ cs) (suc i) f fs others past = long_fault l n cs i f fs others (omega (arith, past))
+
+short_fault : (l : Bool) (n : ℕ) (cs : List ColumnType) (i : ℕ) → i < length cs → IsFirstError l n (drop i cs) [] [] errors.FieldCount
+short_fault l n [] i below = absurd (omega (arith, below))
+short_fault l n (c ∷ cs) zero below = refl
+short_fault l n (c ∷ cs) (suc i) below = short_fault l n cs i (omega (arith, below))
+
+return_fault : (l : Bool) (n : ℕ) (cs : List ColumnType) (next : List Field) (others : List (List Field)) → IsFirstError l n cs [] (next ∷ others) errors.LoneReturn
+return_fault l n [] next others = refl
+return_fault l n (c ∷ cs) next others = refl
+
+word_fault : (l : Bool) (n : ℕ) (cs : List ColumnType) (i : ℕ) (d : ColumnType) (f : Field) (more : List Field) (others : List (List Field)) (fault : RowReadError) → i < length cs → TellsWord n f.text fault → IsUntaken l (get_or cs i d) f → IsFirstError l n (drop i cs) (f ∷ more) others fault
+word_fault l n [] i d f more others fault below told untaken = absurd (omega (arith, below))
+word_fault l n (c ∷ cs) zero d f more others fault below told untaken = inl (told, untaken)
+word_fault l n (c ∷ cs) (suc i) d f more others fault below told untaken = word_fault l n cs i d f more others fault (omega (arith, below)) told untaken
+
 -- ---- no next field
 
-other_follows : (d : ℕ) (columns : List ColumnType) (bytes rest : List ℕ) (fields : List Field) → IsBefore d bytes fields rest → length fields ≡ length columns → HasOtherCount columns (field_rows d bytes)
-other_follows d columns bytes rest fields h long =
-    let some = first_field d rest in
-    let rows : field_rows d bytes ≡ (fields ++ some.0 ∷ some.1) ∷ some.2 = h.rows ∙ ap (with_front fields) some.3 ∙ front_row fields (some.0 ∷ some.1) some.2 in
-    let count : length (fields ++ some.0 ∷ some.1) ≡ length fields + suc (length some.1) = length-append fields (some.0 ∷ some.1) in
-    subst (HasOtherCount columns) (sym rows) (λ e. absurd (omega (arith, count, e, long)))
+other_end : (d : ℕ) (l : Bool) (columns : List ColumnType) (bytes : List ℕ) (fields : List Field) (o : Follows) → AreFollowedBy d bytes fields o → AreTaken l columns fields → HasOtherEnd columns (length fields) o → RefusesFields d l columns bytes errors.FieldCount
+other_end d l columns bytes fields (Another rest) h taken end =
+    let some = first_field d rest.now in
+    first_told l columns fields (some.0 ∷ some.1) (field_rows d bytes) some.2 errors.FieldCount (h ∙ ap (with_front fields) some.3 ∙ front_row fields (some.0 ∷ some.1) some.2) taken (long_fault l (length fields) columns (length fields) some.0 some.1 some.2 end)
+other_end d l columns bytes fields Nothing h taken end =
+    first_told l columns fields [] (field_rows d bytes) [] errors.FieldCount (h ∙ ap (λ (row : List Field). row ∷ []) (sym (append-nil fields))) taken (short_fault l (length fields) columns (length fields) end)
+other_end d l columns bytes fields Row h taken end = absurd end
 
-other_end : (d : ℕ) (columns : List ColumnType) (bytes : List ℕ) (fields : List Field) (o : Follows) → AreFollowedBy d bytes fields o → length fields ≤ length columns → HasOtherEnd columns (length fields) o → HasOtherCount columns (field_rows d bytes)
-other_end d columns bytes fields (Another rest) h within end = other_follows d columns bytes rest.now fields h (omega (arith, within, end))
-other_end d columns bytes fields Nothing h within end = subst (HasOtherCount columns) (sym h) (λ e. absurd (omega (arith, e, end)))
-other_end d columns bytes fields Bytes h within end = absurd end
+other_row : (d : ℕ) (l : Bool) (columns : List ColumnType) (bytes : List ℕ) (fields : List Field) → AreFollowedBy d bytes fields Row → AreTaken l columns fields → RefusesFields d l columns bytes errors.LoneReturn
+other_row d l columns bytes fields h taken =
+    first_told l columns fields [] (field_rows d bytes) (h.0 ∷ h.1) errors.LoneReturn (h.2 ∙ ap (λ (row : List Field). row ∷ h.0 ∷ h.1) (sym (append-nil fields))) taken (return_fault l (length fields) (drop (length fields) columns) h.0 h.1)
 
 -- why a walk does not go on is why there is no row
-pub walk_ends : (d : ℕ) (l : Bool) (columns : List ColumnType) (bytes : List ℕ) (walk : FieldWalk) (fields : List Field) (fault : RowReadError) → HasWalked d columns bytes walk fields → EndsWalk walk fault → RefusesFields d l columns bytes fault
-walk_ends d l columns bytes walk fields errors.Memory h end = tt
-walk_ends d l columns bytes walk fields (errors.Word column word) h end = absurd end
-walk_ends d l columns bytes walk fields errors.FieldCount h end =
+pub walk_ends : (d : ℕ) (l : Bool) (columns : List ColumnType) (bytes : List ℕ) (walk : FieldWalk) (fields : List Field) (fault : RowReadError) → HasWalked d columns bytes walk fields → AreTaken l columns fields → EndsWalk walk fault → RefusesFields d l columns bytes fault
+walk_ends d l columns bytes walk fields errors.Memory h taken end = tt
+walk_ends d l columns bytes walk fields (errors.Word column word) h taken end = absurd end
+walk_ends d l columns bytes walk fields errors.FieldCount h taken end =
     let at : HasOtherEnd columns (length fields) walk.follows = subst (λ (n : ℕ). HasOtherEnd columns n walk.follows) h.place (subst (λ (cs : List ColumnType). HasOtherEnd cs walk.place walk.follows) h.columns_are end) in
-    other_end d columns bytes fields walk.follows h.follow (omega (arith, h.place, h.within)) at
-walk_ends d l columns bytes walk fields errors.LoneReturn h end = subst (AreFollowedBy d bytes fields) end h.follow
+    other_end d l columns bytes fields walk.follows h.follow taken at
+walk_ends d l columns bytes walk fields errors.LoneReturn h taken end = other_row d l columns bytes fields (subst (AreFollowedBy d bytes fields) end h.follow) taken
 
 -- ---- a field that its column does not take
-
-at_seam : (fields : List Field) (f : Field) (others : List Field) → (length fields < length (fields ++ f ∷ others)) × (f ≡ get_or (fields ++ f ∷ others) (length fields) f)
-at_seam fields f others = (omega (arith, length-append fields (f ∷ others)), sym (get_or-append_seam fields f others f))
 
 append_one : (fs : List Field) (f : Field) (gs : List Field) → (fs ++ f ∷ []) ++ gs ≡ fs ++ f ∷ gs
 append_one [] f gs = refl
 append_one (g ∷ fs) f gs = ap (λ (l : List Field). g ∷ l) (append_one fs f gs)
 
--- the field that was read is that of the row, unless bytes stand after it
-field_stands : (d : ℕ) (bytes : List ℕ) (fields : List Field) (f : Field) (o : Follows) → AreFollowedBy d bytes (fields ++ f ∷ []) o → (is_whole_from d st.StartField bytes ≡ false) ⊎ HasFieldAt (length fields) f (field_rows d bytes)
+-- the field that was read is that of the first row
+field_stands : (d : ℕ) (bytes : List ℕ) (fields : List Field) (f : Field) (o : Follows) → AreFollowedBy d bytes (fields ++ f ∷ []) o → (more : List Field) × (others : List (List Field)) × (field_rows d bytes ≡ (fields ++ f ∷ more) ∷ others)
 field_stands d bytes fields f (Another rest) h =
     let some = first_field d rest.now in
-    let rows : field_rows d bytes ≡ (fields ++ f ∷ some.0 ∷ some.1) ∷ some.2 = h.rows ∙ ap (with_front (fields ++ f ∷ [])) some.3 ∙ front_row (fields ++ f ∷ []) (some.0 ∷ some.1) some.2
-    ∙ ap (λ (row : List Field). row ∷ some.2) (append_one fields f (some.0 ∷ some.1)) in
-    inr (subst (HasFieldAt (length fields) f) (sym rows) (at_seam fields f (some.0 ∷ some.1)))
-field_stands d bytes fields f Nothing h = inr (subst (HasFieldAt (length fields) f) (sym h) (at_seam fields f []))
-field_stands d bytes fields f Bytes h = inl h
+    (some.0 ∷ some.1, some.2, h ∙ ap (with_front (fields ++ f ∷ [])) some.3 ∙ front_row (fields ++ f ∷ []) (some.0 ∷ some.1) some.2 ∙ ap (λ (row : List Field). row ∷ some.2) (append_one fields f (some.0 ∷ some.1)))
+field_stands d bytes fields f Nothing h = ([], [], h)
+field_stands d bytes fields f Row h = ([], h.0 ∷ h.1, h.2)
 
-pub word_refused : (d : ℕ) (l : Bool) (columns : List ColumnType) (bytes : List ℕ) (walk : FieldWalk) (fields : List Field) (next : ColumnField) (fault : RowReadError) → IsNext d columns bytes walk fields next → RefusesWord l next.column next.place (field_of next) fault → RefusesFields d l columns bytes fault
-word_refused d l columns bytes walk fields next errors.Memory h refused = tt
-word_refused d l columns bytes walk fields next (errors.Word at found) h refused =
-    let here : length fields ≡ at = sym (refused.0 ∙ h.place) in
-    record {
-      field = field_of next;
-      column = next.column;
-      within = omega (arith, refused.0, h.within);
-      is = h.column ∙ ap (λ (n : ℕ). get_or columns n next.column) (sym refused.0);
-      stands = subst (λ (n : ℕ). (is_whole_from d st.StartField bytes ≡ false) ⊎ HasFieldAt n (field_of next) (field_rows d bytes)) here (field_stands d bytes fields (field_of next) walk.follows h.walked.follow);
-      told = refused.1;
-      none = refused.2;
-      strict = refused.3;
-    }
-word_refused d l columns bytes walk fields next errors.FieldCount h refused = absurd refused
-word_refused d l columns bytes walk fields next errors.LoneReturn h refused = absurd refused
+pub word_refused : (d : ℕ) (l : Bool) (columns : List ColumnType) (bytes : List ℕ) (walk : FieldWalk) (fields : List Field) (next : ColumnField) (fault : RowReadError) → IsNext d columns bytes walk fields next → AreTaken l columns fields → RefusesWord l next.column next.place (field_of next) fault → RefusesFields d l columns bytes fault
+word_refused d l columns bytes walk fields next errors.Memory h taken refused = tt
+word_refused d l columns bytes walk fields next (errors.Word at found) h taken refused =
+    let f = field_of next in
+    let rows = field_stands d bytes fields f walk.follows h.walked.follow in
+    let column : next.column ≡ get_or columns (length fields) next.column = h.column ∙ ap (λ (n : ℕ). get_or columns n next.column) h.place in
+    let untaken : IsUntaken l (get_or columns (length fields) next.column) f = subst (λ (c : ColumnType). IsUntaken l c f) column (refused.2, refused.3) in
+    first_told l columns fields (f ∷ rows.0) (field_rows d bytes) rows.1 (errors.Word at found) rows.2 taken
+    (word_fault l (length fields) columns (length fields) next.column f rows.0 rows.1 (errors.Word at found) (omega (arith, h.place, h.within)) (refused.0 ∙ h.place, refused.1) untaken)
+word_refused d l columns bytes walk fields next errors.FieldCount h taken refused = absurd refused
+word_refused d l columns bytes walk fields next errors.LoneReturn h taken refused = absurd refused
+
+-- ---- how many rows
+
+-- a field before them adds none
+pub followed_long : (d : ℕ) (xs rest : List ℕ) (f : Field) → IsFollowed d st.StartField [] false xs f rest → length (field_rows d xs) ≡ length (field_rows d rest)
+followed_long d xs rest f h =
+    let some = first_field d rest in
+    ap length h.rows ∙ ap (λ (rows : List (List Field)). length (onto_first f rows)) some.3 ∙ sym (ap length some.3)

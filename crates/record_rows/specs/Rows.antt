@@ -1,8 +1,6 @@
 -- The row of a record.
-use Rattle.std.specs.Prelude.{◌≡◌, ◌≢◌, ◌<◌, ◌≤◌, ◌⊎◌, ◌++◌, ℕ, suc, List, [], ◌∷◌, Bool, false, true, count_by, length, slice_index_or}
-use Rattle.csv_records.specs.Rows.{Field, field_rows, is_whole_from, rows_of}
-use Rattle.csv_records.specs.Records.{is_whole}
-use Rattle.csv.specs.declared.parser.State.TheVariants as st
+use Rattle.std.specs.Prelude.{◌≡◌, ◌<◌, ◌≤◌, ◌⊎◌, ◌++◌, ℕ, suc, List, [], ◌∷◌, Bool, false, true, count_by, length, slice_index_or}
+use Rattle.csv_records.specs.Rows.{Field, field_rows, rows_of}
 use Rattle.vortex_dtype.specs.declared.nullability.Nullability.TheVariants.{NonNullable, Nullable}
 use Rattle.vortex_value.specs.Values.Content.{null}
 use Rattle.vortex_value.specs.Values.Scalars.{IsValid, scalar_content, scalar_type}
@@ -123,36 +121,47 @@ RefusesWord lenient column place f (errors.Word at found) = (at ≡ place) × (f
 RefusesWord lenient column place f errors.FieldCount = ⊥
 RefusesWord lenient column place f errors.LoneReturn = ⊥
 
--- the first row has this field at this place
-abbrev pub HasFieldAt : ℕ → Field → List (List Field) → Type 0
-HasFieldAt place f [] = ⊥
-HasFieldAt place f (row ∷ rows) = (place < length row) × (f ≡ slice_index_or row place f)
+-- the column does not take the field, and no null may stand in place of its cell
+abbrev pub IsUntaken : Bool → ColumnType → Field → Type 0
+IsUntaken lenient column f = HasNoCell column f × IsStrict lenient column
 
--- the field at this place has this word, unless bytes stand after the row, and the column there does not take it
-pub record IsRefused (lenient : Bool) (columns : List ColumnType) (whole : Bool) (rows : List (List Field)) (place : ℕ) (word : List ℕ) : Type 0 where
-  pub field : Field
-  pub column : ColumnType
-  pub within : place < length columns
-  pub is : column ≡ slice_index_or columns place column
-  pub stands : (whole ≡ false) ⊎ HasFieldAt place field rows
-  pub told : word ≡ field.text
-  pub none : HasNoCell column field
-  pub strict : IsStrict lenient column
+-- the column takes the field, or a null may stand in place of its cell
+abbrev pub Takes : Bool → ColumnType → Field → Type 0
+Takes lenient column f = (flag : Bool) × IsTested lenient column f flag
 
--- the first row has another number of fields than there are columns
-abbrev pub HasOtherCount : List ColumnType → List (List Field) → Type 0
-HasOtherCount columns [] = ⊥
-HasOtherCount columns (row ∷ rows) = length row ≢ length columns
+-- the fault tells this word of this column
+abbrev pub TellsWord : ℕ → List ℕ → RowReadError → Type 0
+TellsWord place word errors.Memory = ⊥
+TellsWord place word (errors.Word column found) = (column ≡ place) × (found.items ≡ word)
+TellsWord place word errors.FieldCount = ⊥
+TellsWord place word errors.LoneReturn = ⊥
 
+-- the fault is the first that is met from left to right, of columns from this place on and the fields beside them, which end a row:
+-- a field that its column does not take; a field too many; behind the last field another row, or else a field too few
+abbrev pub IsFirstError : Bool → ℕ → List ColumnType → List Field → List (List Field) → RowReadError → Type 0
+IsFirstError lenient place [] [] [] fault = ⊥
+IsFirstError lenient place [] [] (next ∷ others) fault = fault ≡ errors.LoneReturn
+IsFirstError lenient place [] (f ∷ fs) others fault = fault ≡ errors.FieldCount
+IsFirstError lenient place (c ∷ cs) [] [] fault = fault ≡ errors.FieldCount
+IsFirstError lenient place (c ∷ cs) [] (next ∷ others) fault = fault ≡ errors.LoneReturn
+IsFirstError lenient place (c ∷ cs) (f ∷ fs) others fault = (TellsWord place f.text fault × IsUntaken lenient c f) ⊎ (Takes lenient c f × IsFirstError lenient (suc place) cs fs others fault)
+
+-- the same of the rows of a record, where the first one is its row
+abbrev pub HasFirstError : Bool → List ColumnType → List (List Field) → RowReadError → Type 0
+HasFirstError lenient columns [] fault = ⊥
+HasFirstError lenient columns (row ∷ others) fault = IsFirstError lenient 0 columns row others fault
+
+-- why a record with these rows is not taken: no memory was left, or the first fault
+abbrev pub RefusesRows : Bool → List ColumnType → List (List Field) → RowReadError → Type 0
+RefusesRows lenient columns rows errors.Memory = Unit {0}
+RefusesRows lenient columns rows (errors.Word column found) = HasFirstError lenient columns rows (errors.Word column found)
+RefusesRows lenient columns rows errors.FieldCount = HasFirstError lenient columns rows errors.FieldCount
+RefusesRows lenient columns rows errors.LoneReturn = HasFirstError lenient columns rows errors.LoneReturn
+
+-- the same of a text that begins where a field does
 abbrev pub RefusesFields : ℕ → Bool → List ColumnType → List ℕ → RowReadError → Type 0
-RefusesFields delimiter lenient columns bytes errors.Memory = Unit {0}
-RefusesFields delimiter lenient columns bytes (errors.Word place found) = IsRefused lenient columns (is_whole_from delimiter st.StartField bytes) (field_rows delimiter bytes) place found.items
-RefusesFields delimiter lenient columns bytes errors.FieldCount = HasOtherCount columns (field_rows delimiter bytes)
-RefusesFields delimiter lenient columns bytes errors.LoneReturn = is_whole_from delimiter st.StartField bytes ≡ false
+RefusesFields delimiter lenient columns bytes fault = RefusesRows lenient columns (field_rows delimiter bytes) fault
 
--- why a record has no row
+-- the same of a record
 abbrev pub Refuses : ℕ → Bool → List ColumnType → List ℕ → RowReadError → Type 0
-Refuses delimiter lenient columns line errors.Memory = Unit {0}
-Refuses delimiter lenient columns line (errors.Word place found) = IsRefused lenient columns (is_whole delimiter line) (rows_of delimiter line) place found.items
-Refuses delimiter lenient columns line errors.FieldCount = HasOtherCount columns (rows_of delimiter line)
-Refuses delimiter lenient columns line errors.LoneReturn = is_whole delimiter line ≡ false
+Refuses delimiter lenient columns line fault = RefusesRows lenient columns (rows_of delimiter line) fault

@@ -1,10 +1,10 @@
 -- A walk over the fields of a record.
-use Rattle.std.specs.Prelude.{◌≡◌, ◌<◌, ◌≤◌, ◌++◌, ℕ, List, [], ◌∷◌, false, Option, None, Some, length, slice_index_or}
+use Rattle.std.specs.Prelude.{◌≡◌, ◌<◌, ◌≤◌, ◌++◌, ℕ, List, [], ◌∷◌, Bool, Option, None, Some, length, slice_index_or}
 use Rattle.std.specs.List.{onto_first}
-use Rattle.csv.specs.declared.parser.State.TheVariants as st
-use Rattle.csv_records.specs.Rows.{Field, field_rows, is_whole_from}
+use Rattle.csv_records.specs.Rows.{Field, field_rows}
 use Rattle.csv_records.specs.declared.fields.Follows.{Follows}
-use Rattle.csv_records.specs.declared.fields.Follows.TheVariants.{Another, Bytes, Nothing}
+use Rattle.csv_records.specs.declared.fields.Follows.TheVariants.{Another, Nothing, Row}
+use Rattle.record_rows.specs.Rows.{Takes}
 use Rattle.record_rows.specs.declared.errors.RowReadError.{RowReadError}
 use Rattle.record_rows.specs.declared.errors.RowReadError.TheVariants as errors
 use Rattle.record_rows.specs.declared.fields.ColumnField.{ColumnField}
@@ -16,16 +16,11 @@ abbrev pub with_front : List Field → List (List Field) → List (List Field)
 with_front [] rows = rows
 with_front (f ∷ fs) rows = onto_first f (with_front fs rows)
 
--- these are the first fields of the bytes, and the rest begins with the next one
-pub record IsBefore (delimiter : ℕ) (bytes : List ℕ) (fields : List Field) (rest : List ℕ) : Type 0 where
-  pub rows : field_rows delimiter bytes ≡ with_front fields (field_rows delimiter rest)
-  pub whole : is_whole_from delimiter st.StartField bytes ≡ is_whole_from delimiter st.StartField rest
-
 -- these fields were read of the bytes, and that follows them
 abbrev pub AreFollowedBy : ℕ → List ℕ → List Field → Follows → Type 0
-AreFollowedBy delimiter bytes fields (Another rest) = IsBefore delimiter bytes fields rest.now
+AreFollowedBy delimiter bytes fields (Another rest) = field_rows delimiter bytes ≡ with_front fields (field_rows delimiter rest.now)
 AreFollowedBy delimiter bytes fields Nothing = field_rows delimiter bytes ≡ fields ∷ []
-AreFollowedBy delimiter bytes fields Bytes = is_whole_from delimiter st.StartField bytes ≡ false
+AreFollowedBy delimiter bytes fields Row = (next : List Field) × (others : List (List Field)) × (field_rows delimiter bytes ≡ fields ∷ next ∷ others)
 
 -- a walk over the bytes has read these fields, one for each of the first columns
 pub record HasWalked (delimiter : ℕ) (columns : List ColumnType) (bytes : List ℕ) (walk : FieldWalk) (fields : List Field) : Type 0 where
@@ -34,6 +29,13 @@ pub record HasWalked (delimiter : ℕ) (columns : List ColumnType) (bytes : List
   pub place : walk.place ≡ length fields
   pub within : walk.place ≤ length columns
   pub follow : AreFollowedBy delimiter bytes fields walk.follows
+
+-- each of the fields is taken by its column
+abbrev pub AreTaken : Bool → List ColumnType → List Field → Type 0
+AreTaken lenient [] [] = Unit {0}
+AreTaken lenient [] (f ∷ fs) = ⊥
+AreTaken lenient (c ∷ cs) [] = Unit {0}
+AreTaken lenient (c ∷ cs) (f ∷ fs) = Takes lenient c f × AreTaken lenient cs fs
 
 -- a field without its column
 abbrev pub field_of : ColumnField → Field
@@ -55,11 +57,11 @@ ReadsNext delimiter columns bytes walk fields None = (field_rows delimiter bytes
 abbrev pub HasOtherEnd : List ColumnType → ℕ → Follows → Type 0
 HasOtherEnd columns place (Another rest) = length columns ≤ place
 HasOtherEnd columns place Nothing = place < length columns
-HasOtherEnd columns place Bytes = ⊥
+HasOtherEnd columns place Row = ⊥
 
 -- why a walk does not go on
 abbrev pub EndsWalk : FieldWalk → RowReadError → Type 0
 EndsWalk walk errors.Memory = ⊥
 EndsWalk walk (errors.Word column word) = ⊥
 EndsWalk walk errors.FieldCount = HasOtherEnd walk.columns.now walk.place walk.follows
-EndsWalk walk errors.LoneReturn = walk.follows ≡ Bytes
+EndsWalk walk errors.LoneReturn = walk.follows ≡ Row

@@ -14,7 +14,7 @@ pub enum RowReadError {
     Word { column: usize, word: Vec<u8> },
     /// The record has fewer fields than there are columns, or more.
     FieldCount,
-    /// A carriage return ends a row, and no line feed follows it.
+    /// Another row follows the first one, as behind a carriage return inside of a record.
     LoneReturn,
 }
 

@@ -4,7 +4,7 @@ ghost use Rattle.std.specs.Prelude.{◌≡◌, ◌+◌, ◌<◌, ◌≤◌, ℕ,
 ghost use Rattle.csv_records.specs.Rows.{Field};
 ghost use Rattle.csv_records.specs.declared.fields.Follows.TheVariants.{Another, Nothing};
 ghost use Rattle.record_rows.specs.Rows.{RefusesFields};
-ghost use Rattle.record_rows.specs.Walks.{EndsWalk, HasWalked, ReadsNext};
+ghost use Rattle.record_rows.specs.Walks.{AreTaken, EndsWalk, HasWalked, ReadsNext};
 ghost use Rattle.record_rows.specs.declared.schema.ColumnType.{ColumnType};
 
 use crate::errors::RowReadError;
@@ -66,9 +66,10 @@ impl<'a> FieldWalk<'a> {
         ensures moves { IfOk result (λ next. IfSome next (λ _. (self.new.place ≡ self.old.place + 1)
             × (self.old.place < length self.old.columns.now))) }
         ensures columns { self.new.columns ≡ self.old.columns }
+        // If the fields before were taken, the fault is the first one.
         ensures refused { IfErr result (λ fault. (delimiter : ℕ) (lenient : Bool) (columns : List ColumnType)
             (bytes : List ℕ) (fields : List Field) → HasWalked delimiter columns bytes self.old fields
-            → RefusesFields delimiter lenient columns bytes fault) }
+            → AreTaken lenient columns fields → RefusesFields delimiter lenient columns bytes fault) }
     {
         let Some(rest) = self.next_start()? else {
             return Ok(None);
@@ -98,7 +99,7 @@ impl<'a> FieldWalk<'a> {
         match self.follows {
             Follows::Another(rest) if has_column => Ok(Some(rest)),
             Follows::Nothing if !has_column => Ok(None),
-            Follows::Bytes => Err(RowReadError::LoneReturn),
+            Follows::Row => Err(RowReadError::LoneReturn),
             _ => Err(RowReadError::FieldCount),
         }
     }

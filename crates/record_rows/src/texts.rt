@@ -1,18 +1,16 @@
 //! Texts of many records: their records and rows, and where one may be cut.
 
-ghost use Rattle.std.specs.Prelude.{◌≡◌, ◌≤◌, ◌↔◌, ◌++◌, IfOk, drop, false, length, map, take, true};
+ghost use Rattle.std.specs.Prelude.{◌≡◌, ◌<◌, ◌≤◌, ◌↔◌, ◌++◌, IfOk, MatchBool, drop, length, map, take, true};
 ghost use Rattle.std.specs.List.{concat};
 ghost use Rattle.csv.specs.Reading.{strip_bom};
 ghost use Rattle.csv.specs.Records.{fields_of};
-ghost use Rattle.csv.specs.declared.parser.State.TheVariants.{StartField, StartRecord};
+ghost use Rattle.csv.specs.declared.parser.State.TheVariants.{StartRecord};
 ghost use Rattle.csv_records.specs.Laws.{texts_of};
-ghost use Rattle.csv_records.specs.Records.{is_whole, records_of};
-ghost use Rattle.csv_records.specs.Rows.{is_whole_from, rows_of, state_after};
+ghost use Rattle.csv_records.specs.Records.{records_of};
+ghost use Rattle.csv_records.specs.Rows.{field_rows, rows_of, state_after};
 
 use csv::{ByteRecord, Error, ReaderBuilder};
-use csv_records::laws::{
-    records_are_parts, rows_are_cut, rows_are_read, whole_records_have_one_row,
-};
+use csv_records::laws::{records_are_parts, rows_are_cut, rows_are_read};
 use csv_records::{
     Delimiter, Follows, RecordState, cut_field, cut_record, row_start, state_after_line,
 };
@@ -76,22 +74,23 @@ pub fn may_cut(delimiter: Delimiter, text: &[u8], place: usize) -> bool
     }
 }
 
-/// Whether no bytes stand after the row of a record. Then it has one row, or none.
+/// Whether a record has one row at most. A carriage return alone ends a row, but no record, so that
+/// one may have more.
 pub fn is_whole_record(alloc: Global, delimiter: Delimiter, line: &[u8]) -> Result<bool, AllocError>
-    ensures row { IfOk result (λ whole. whole ≡ true → length (rows_of delimiter.byte line.now) ≤ 1) }
-    ensures bytes { IfOk result (λ whole. whole ≡ false → is_whole delimiter.byte line.now ≡ false) }
+    ensures { IfOk result (λ whole. MatchBool whole
+        (length (rows_of delimiter.byte line.now) ≤ 1) (1 < length (rows_of delimiter.byte line.now))) }
 {
-    whole_records_have_one_row();
     let start = row_start(line);
     if start.is_empty() {
         return Ok(true);
     }
-    reaches_to_end(alloc, delimiter, start)
+    is_only_row(alloc, delimiter, start)
 }
 
-/// Whether no bytes stand after the row of a text that begins where a field does.
-fn reaches_to_end(alloc: Global, delimiter: Delimiter, text: &[u8]) -> Result<bool, AllocError>
-    ensures { IfOk result (λ whole. whole ≡ is_whole_from delimiter.byte StartField text.now) }
+/// Whether a text has one row. It begins where a field does.
+fn is_only_row(alloc: Global, delimiter: Delimiter, text: &[u8]) -> Result<bool, AllocError>
+    ensures { IfOk result (λ only. MatchBool only
+        (length (field_rows delimiter.byte text.now) ≡ 1) (1 < length (field_rows delimiter.byte text.now))) }
 {
     let mut rest = text;
     let mut buffer = Vec::new(alloc);
@@ -100,7 +99,7 @@ fn reaches_to_end(alloc: Global, delimiter: Delimiter, text: &[u8]) -> Result<bo
         match cut.follows {
             Follows::Another(next) => rest = next,
             Follows::Nothing => return Ok(true),
-            Follows::Bytes => return Ok(false),
+            Follows::Row => return Ok(false),
         }
     }
     Ok(true)

@@ -24,7 +24,7 @@ use Rattle.vortex_value.specs.Equality.{same_type}
 use Rattle.vortex_value.specs.Lemmas.EqualityLaws.{same_type-Decides}
 use Rattle.vortex_value.specs.Order.{order}
 use Rattle.zone_index.specs.Encoding.{bytes_encoding}
-use Rattle.record_search.specs.Searched.{AreDescribed, AreRightEncodings, AreRowsOf, IsCutOf, IsRightEncoding}
+use Rattle.record_search.specs.Searched.{AreDescribed, AreDescribedBy, AreDescribedFully, AreEncoded, AreRowsOf, IsCutOf, IsFullOf, IsRightOf}
 use Rattle.record_search.proofs.RowLaws.{cell_typed}
 
 -- ---- columns
@@ -87,47 +87,58 @@ cut_typed t n cells s all h right =
 
 -- ---- encodings
 
-encodings_push : (k : ℕ) (cs : List ColumnType) (c : ColumnType) (rows : List (List Cell)) (ps : List (List ℕ)) (p : List ℕ) → AreRightEncodings k cs rows ps → IsRightEncoding (column_type c) (column (k + length cs) rows) p → AreRightEncodings k (cs ++ c ∷ []) rows (ps ++ p ∷ [])
-encodings_push k [] c rows [] p h new = let e : k + 0 ≡ k = omega arith in (subst (λ (j : ℕ). IsRightEncoding (column_type c) (column j rows) p) e new, tt)
-encodings_push k [] c rows (q ∷ ps) p h new = absurd h
-encodings_push k (b ∷ cs) c rows [] p h new = absurd h
-encodings_push k (b ∷ cs) c rows (q ∷ ps) p h new =
+encodings_push : (Is : ColumnType → List Cell → List ℕ → Type 0) (k : ℕ) (cs : List ColumnType) (c : ColumnType) (rows : List (List Cell)) (ps : List (List ℕ)) (p : List ℕ) → AreEncoded Is k cs rows ps → Is c (column (k + length cs) rows) p → AreEncoded Is k (cs ++ c ∷ []) rows (ps ++ p ∷ [])
+encodings_push Is k [] c rows [] p h new = let e : k + 0 ≡ k = omega arith in (subst (λ (j : ℕ). Is c (column j rows) p) e new, tt)
+encodings_push Is k [] c rows (q ∷ ps) p h new = absurd h
+encodings_push Is k (b ∷ cs) c rows [] p h new = absurd h
+encodings_push Is k (b ∷ cs) c rows (q ∷ ps) p h new =
     let e : k + suc (length cs) ≡ suc k + length cs = omega arith in
-    (h.0, encodings_push (suc k) cs c rows ps p h.1 (subst (λ (j : ℕ). IsRightEncoding (column_type c) (column j rows) p) e new))
+    (h.0, encodings_push Is (suc k) cs c rows ps p h.1 (subst (λ (j : ℕ). Is c (column j rows) p) e new))
 
-pub none_described : (columns : List ColumnType) (rows : List (List Cell)) (output : List ℕ) → output ≡ [] → AreDescribed (take 0 columns) rows output
-none_described columns rows output e = record { encodings = []; is = e; right = tt }
+pub none_described : (Is : ColumnType → List Cell → List ℕ → Type 0) (columns : List ColumnType) (rows : List (List Cell)) (output : List ℕ) → output ≡ [] → AreDescribedBy Is (take 0 columns) rows output
+none_described Is columns rows output e = record { encodings = []; is = e; each = tt }
 
 pub some_column : ColumnType
 some_column = record { kind = kinds.Utf8; nullability = NonNullable }
 
--- a column more
-pub described_more : (columns : List ColumnType) (rows : List (List Cell)) (k n : ℕ) (s : ColumnStatistics) (output new : List ℕ) → k < length columns → AreRowsOf columns rows → AreDescribed (take k columns) rows output
-    → IsCutOf n (column k rows) s → AreRight (known s) (column k rows) → IsHeldKnown (known s) → length (encoding (known s)) < 2 ^ 64 → new ≡ output ++ bytes_encoding (encoding (known s)) → AreDescribed (take (k + 1) columns) rows new
-described_more columns rows k n s output new below of before cut right held fits appended =
+-- the bytes of a column more
+described_by : (Is : ColumnType → List Cell → List ℕ → Type 0) (columns : List ColumnType) (rows : List (List Cell)) (k : ℕ) (bytes output new : List ℕ) → k < length columns → AreDescribedBy Is (take k columns) rows output → Is (get_or columns k some_column) (column k rows) bytes
+    → new ≡ output ++ bytes_encoding bytes → AreDescribedBy Is (take (k + 1) columns) rows new
+described_by Is columns rows k bytes output new below before one appended =
     let c = get_or columns k some_column in
     let more : take (k + 1) columns ≡ take k columns ++ c ∷ [] = (take_at_read columns k some_column below).1 in
     let long : length (take k columns) ≡ k = length_front columns k below in
-    let bytes = encoding (known s) in
-    let one : IsRightEncoding (column_type c) (column k rows) bytes = record {
-      fits = fits;
-      statistics = known s;
-      held = held;
-      is = refl;
-      typed = cut_typed (column_type c) n (column k rows) s (column_typed columns rows k some_column of below) cut right;
-      right = right;
-    } in
-    let here : IsRightEncoding (column_type c) (column (0 + length (take k columns)) rows) bytes = let e : k ≡ 0 + length (take k columns) = omega arith in subst (λ (j : ℕ). IsRightEncoding (column_type c) (column j rows) bytes) e one in
-    subst (λ (cs : List ColumnType). AreDescribed cs rows new) (sym more) (record {
+    let here : Is c (column (0 + length (take k columns)) rows) bytes = let e : k ≡ 0 + length (take k columns) = omega arith in subst (λ (j : ℕ). Is c (column j rows) bytes) e one in
+    subst (λ (cs : List ColumnType). AreDescribedBy Is cs rows new) (sym more) (record {
       encodings = before.encodings ++ bytes ∷ [];
       is = appended ∙ ap (λ (l : List ℕ). l ++ bytes_encoding bytes) before.is ∙ ap (λ (l : List ℕ). flat_map bytes_encoding before.encodings ++ l) (sym (append-nil (bytes_encoding bytes))) ∙ sym (flat_map-append bytes_encoding before.encodings (bytes ∷ []));
-      right = encodings_push 0 (take k columns) c rows before.encodings bytes before.right here;
+      each = encodings_push Is 0 (take k columns) c rows before.encodings bytes before.each here;
     })
   where
     length_front : (cs : List ColumnType) (j : ℕ) → j < length cs → length (take j cs) ≡ j
     length_front cs zero h = refl
     length_front [] (suc j) h = absurd (omega arith)
     length_front (b ∷ cs) (suc j) h = ap suc (length_front cs j (omega arith))
+
+-- a column more
+pub described_more : (columns : List ColumnType) (rows : List (List Cell)) (k n : ℕ) (s : ColumnStatistics) (output new : List ℕ) → k < length columns → AreRowsOf columns rows → AreDescribed (take k columns) rows output
+    → IsCutOf n (column k rows) s → AreRight (known s) (column k rows) → IsHeldKnown (known s) → length (encoding (known s)) < 2 ^ 64 → new ≡ output ++ bytes_encoding (encoding (known s)) → AreDescribed (take (k + 1) columns) rows new
+described_more columns rows k n s output new below of before cut right held fits appended =
+    let c = get_or columns k some_column in
+    described_by IsRightOf columns rows k (encoding (known s)) output new below before (record {
+      fits = fits;
+      statistics = known s;
+      held = held;
+      is = refl;
+      typed = cut_typed (column_type c) n (column k rows) s (column_typed columns rows k some_column of below) cut right;
+      right = right;
+    }) appended
+
+-- the same, of all that is to be known
+pub fully_more : (columns : List ColumnType) (rows : List (List Cell)) (k n : ℕ) (s : ColumnStatistics) (output new : List ℕ) → k < length columns → AreDescribedFully n (take k columns) rows output → IsCutOf n (column k rows) s → new ≡ output ++ bytes_encoding (encoding (known s))
+    → AreDescribedFully n (take (k + 1) columns) rows new
+fully_more columns rows k n s output new below before cut appended =
+    described_by (IsFullOf n) columns rows k (encoding (known s)) output new below before (record { statistics = s; cut = cut; is = refl }) appended
 
 -- ---- records
 
@@ -154,8 +165,8 @@ row_pushed h line None old new e is = is ∙ sym (append-nil old) ∙ ap (λ (r 
 row_pushed h line (Some row) old new e is = is ∙ ap (λ (r : Option (List Cell)). old ++ cons_option r []) (sym e)
 
 -- all columns
-pub all_described : (columns : List ColumnType) (rows : List (List Cell)) (k : ℕ) (output : List ℕ) → length columns ≤ k → AreDescribed (take k columns) rows output → AreDescribed columns rows output
-all_described columns rows k output ended h = subst (λ (cs : List ColumnType). AreDescribed cs rows output) (take_all k columns ended) h
+pub all_described : (Is : ColumnType → List Cell → List ℕ → Type 0) (columns : List ColumnType) (rows : List (List Cell)) (k : ℕ) (output : List ℕ) → length columns ≤ k → AreDescribedBy Is (take k columns) rows output → AreDescribedBy Is columns rows output
+all_described Is columns rows k output ended h = subst (λ (cs : List ColumnType). AreDescribedBy Is cs rows output) (take_all k columns ended) h
 
 -- the length of an encoding and the encoding itself, one after the other
 pub encoding_pushed : {T E : Type 0} (r : Result T E) (old one two bytes f : List ℕ) (n : ℕ) → one ≡ old ++ to_le_bytes w64 n → n ≡ length bytes → bytes ≡ f → two ≡ (if is_ok r then one ++ bytes else one) → OnOk r (two ≡ old ++ bytes_encoding f)

@@ -19,7 +19,7 @@ use Rattle.zone_index.specs.Zones.{Follow, IsZoneOf, zone_records}
 use Rattle.zone_index.specs.declared.encoding.Index.{Index}
 use Rattle.zone_index.specs.declared.zones.Zone.{Zone}
 use Rattle.zone_index.proofs.FieldLaws.{bytes_again, ok_is}
-use Rattle.record_search.specs.Searched.{AreDescribed, AreRightEncodings, DescribeRows, IsRightEncoding, IsRowIndex, has_row, row_under, rows_alone, rows_under}
+use Rattle.record_search.specs.Searched.{AreDescribed, AreEncoded, DescribeRows, IsRightEncoding, IsRightOf, IsRowIndex, has_row, row_under, rows_alone, rows_under}
 use Rattle.record_rows.specs.declared.schema.Schema.{Schema}
 use Rattle.record_search.proofs.DescribeLaws.{rows_counted}
 
@@ -54,7 +54,7 @@ alone_right t k n rows few is = record {
 abbrev AllFit : List (List ℕ) → Type 0
 AllFit ps = AllByRecursion (λ p. length p < 2 ^ 64) ps
 
-encodings_fit : (k : ℕ) (cs : List ColumnType) (rows : List (List Cell)) (ps : List (List ℕ)) → AreRightEncodings k cs rows ps → AllFit ps
+encodings_fit : (k : ℕ) (cs : List ColumnType) (rows : List (List Cell)) (ps : List (List ℕ)) → AreEncoded IsRightOf k cs rows ps → AllFit ps
 encodings_fit k [] rows [] h = tt
 encodings_fit k [] rows (p ∷ ps) h = absurd h
 encodings_fit k (c ∷ cs) rows [] h = absurd h
@@ -81,7 +81,7 @@ one_of : (t : TypeTree) (cells : List Cell) (p u : List ℕ) (b : Bool) → IsRi
 one_of t cells p u true h g = h
 one_of t cells p u false h g = g
 
-less_encodings : (wanted : List Bool) (n k : ℕ) (cs : List ColumnType) (rows : List (List Cell)) (ps : List (List ℕ)) → n < 2 ^ 64 → n ≡ length rows → AreRightEncodings k cs rows ps → AreRightEncodings k cs rows (wanted_pieces wanted k (alone n) ps)
+less_encodings : (wanted : List Bool) (n k : ℕ) (cs : List ColumnType) (rows : List (List Cell)) (ps : List (List ℕ)) → n < 2 ^ 64 → n ≡ length rows → AreEncoded IsRightOf k cs rows ps → AreEncoded IsRightOf k cs rows (wanted_pieces wanted k (alone n) ps)
 less_encodings wanted n k [] rows [] few is h = tt
 less_encodings wanted n k [] rows (p ∷ ps) few is h = absurd h
 less_encodings wanted n k (c ∷ cs) rows [] few is h = absurd h
@@ -89,8 +89,8 @@ less_encodings wanted n k (c ∷ cs) rows (p ∷ ps) few is h = (one_of (column_
 
 less_described : (wanted : List Bool) (n m : ℕ) (cs : List ColumnType) (rows : List (List Cell)) (z : ZoneValue) (ps : List (List ℕ)) → n < 2 ^ 64 → n ≡ length rows → ArePieces m z ps → AreDescribed cs rows z.statistics → AreDescribed cs rows (flat_map bytes_encoding (wanted_pieces wanted 0 (alone n) ps))
 less_described wanted n m cs rows z ps few is are h =
-    let same : h.encodings ≡ ps = same_pieces h.encodings ps (encodings_fit 0 cs rows h.encodings h.right) are.fit (sym h.is ∙ are.is) in
-    record { encodings = wanted_pieces wanted 0 (alone n) ps; is = refl; right = less_encodings wanted n 0 cs rows ps few is (subst (AreRightEncodings 0 cs rows) same h.right) }
+    let same : h.encodings ≡ ps = same_pieces h.encodings ps (encodings_fit 0 cs rows h.encodings h.each) are.fit (sym h.is ∙ are.is) in
+    record { encodings = wanted_pieces wanted 0 (alone n) ps; is = refl; each = less_encodings wanted n 0 cs rows ps few is (subst (AreEncoded IsRightOf 0 cs rows) same h.each) }
 
 -- ---- zones
 

@@ -1,6 +1,7 @@
 pub mod DecodeLaws
 pub mod Decoded
 pub mod DescribeLaws
+pub mod FoundLaws
 pub mod LessIndex
 pub mod NamedLaws
 pub mod ObserveLaws

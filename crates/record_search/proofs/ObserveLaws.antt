@@ -1,13 +1,16 @@
 -- The rows of records are observed, one after another.
-use Rattle.std.proofs.Common.{◌≡◌, ◌<◌, ◌≤◌, ◌+◌, ◌^◌, ◌++◌, ℕ, zero, suc, List, [], ◌∷◌, Bool, true, false, Option, None, Some, Result, Ok, Err, MatchOption, is_some, refl, sym, ap, ◌∙◌, subst, length, map, take, arith, append_assoc, append-nil, length-append}
+use Rattle.std.proofs.Common.{◌≡◌, ◌<◌, ◌≤◌, ◌+◌, ◌^◌, ◌++◌, ℕ, zero, suc, List, [], ◌∷◌, Bool, true, false, if◌then◌else◌, Option, None, Some, Result, Ok, Err, MatchOption, is_none, is_some, unwrap_or, refl, sym, ap, ◌∙◌, subst, length, map, take, arith, append_assoc, append-nil, length-append}
 use Rattle.std.specs.Int.{from_bool}
-use Rattle.std.specs.List.{AllByRecursion, filter_map}
+use Rattle.std.specs.List.{AllByRecursion, filter_map, sum_by}
 use Rattle.std.specs.Prelude.{OnOk}
 use Rattle.csv_records.specs.Records.{records_of}
 use Rattle.std.proofs.lemmas.List.{map-append}
+use Rattle.std.proofs.lemmas.List.Sums.{sum_by-append}
 use Rattle.csv_records.specs.Rows.{Field, rows_of}
 use Rattle.record_rows.specs.Cells.{is_null_field}
+use Rattle.record_rows.specs.Rows.{refused_of}
 use Rattle.record_rows.specs.declared.schema.ColumnType.{ColumnType}
+use Rattle.record_rows.specs.declared.schema.Schema.{Schema}
 use Rattle.record_rows.specs.Observed.{AreFieldsObserved, IsObserved, IsStep, IsTakenAs, Step, cell_in}
 use Rattle.vortex_filter.specs.Formula.{cell_at}
 use Rattle.filter_pruning.specs.Pruning.{column}
@@ -18,10 +21,12 @@ use Rattle.vortex_statistics.specs.Truncating.{AreTruncated}
 use Rattle.vortex_statistics.specs.declared.column_statistics.ColumnStatistics.{ColumnStatistics}
 use Rattle.vortex_value.specs.Values.Content.{Content}
 use Rattle.zone_index.specs.Encoding.{bytes_encoding}
+use Rattle.zone_index.specs.Sinks.{told}
 use Rattle.record_search.specs.Contents.{cells_of, field_content, only_row, row_of}
-use Rattle.record_search.specs.Searched.{AreAllComplete, AreAllWith, AreDescribed, AreRowsOf, ObservesRow, PushesCut}
-use Rattle.record_search.proofs.DescribeLaws.{all_described, described_more, none_described, row_pushed, rows_more}
-use Rattle.record_search.proofs.RowLaws.{cell_field, no_row, null_field}
+use Rattle.record_search.specs.Searched.{AreAllComplete, AreAllWith, AreDescribed, AreDescribedFully, AreRowsOf, IsCutOf, IsFullOf, IsRightOf, ObservesRow, PushesCut, is_refused, nulls_under, row_under, untaken, untaken_of}
+use Rattle.record_search.proofs.DescribeLaws.{all_described, described_more, fully_more, none_described, row_pushed, rows_more}
+use Rattle.record_search.proofs.RefusedLaws.{passed_none, passed_row}
+use Rattle.record_search.proofs.RowLaws.{cell_field, no_content, no_row, null_field}
 
 -- ---- the row of a record
 
@@ -52,6 +57,66 @@ row_observed d l columns line old new (Some n) h =
     let p = fields_observed l columns h.0 old new n h.2 in
     rw (ap (only_row l columns) h.1 ∙ p.0) p.1
 row_observed d l columns line old new None h = rw (no_row d l columns line h.0) h.1
+
+observes_some : (o : Option (List Cell)) (old new : List ColumnStatistics) → ObservesRow true o old new → (row : List Cell) × (o ≡ Some row)
+observes_some (Some cells) old new h = (cells, refl)
+observes_some None old new h = absurd h
+
+-- a record that was observed is not refused
+pub passed_observed : (s : Schema) (line : List ℕ) (old new : List ColumnStatistics) (refused : Option ℕ) → MatchOption refused ((rows_of s.delimiter.byte line ≡ []) × (new ≡ old)) (IsObserved s.delimiter.byte s.is_lenient s.columns.items line old new) → is_refused s line ≡ false
+passed_observed s line old new None h = passed_none s line h.0
+passed_observed s line old new (Some n) h =
+    let some = observes_some (row_under s line) old new (row_observed s.delimiter.byte s.is_lenient s.columns.items line old new (Some n) h) in
+    passed_row s line some.0 some.1
+
+-- ---- nulls in place of fields
+
+none_is : {A : Type 0} (o : Option A) → o ≡ None → is_none o ≡ true
+none_is o e = ap is_none e
+
+some_is : {A : Type 0} (o : Option A) (x : A) → o ≡ Some x → is_none o ≡ false
+some_is o x e = ap is_none e
+
+flag_is : (l : Bool) (column : ColumnType) (f : Field) (c : Content) (b : Bool) → IsTakenAs l column f c b → is_none (field_content false column f) ≡ b
+flag_is l column f c false h = some_is (field_content false column f) c (cell_field false column f c (is_null_field column.nullability f) refl h)
+flag_is l column f c true h = none_is (field_content false column f) (no_content column f (is_null_field column.nullability f) refl h.1)
+
+count_more : (b : Bool) (bs : List Bool) → (if b then 1 else 0) + refused_of bs ≡ refused_of (b ∷ bs)
+count_more b bs = omega (arith, sum_by-append (λ (c : Bool). if c then 1 else 0) (b ∷ []) bs)
+
+steps_untaken : (l : Bool) (steps : List Step) → AllByRecursion (IsStep l) steps → untaken (map (λ s. s.column) steps) (map (λ s. s.field) steps) ≡ refused_of (map (λ s. s.flag) steps)
+steps_untaken l [] h = refl
+steps_untaken l (s ∷ steps) h = rw (flag_is l s.column s.field s.content s.flag h.0.0, steps_untaken l steps h.1) (count_more s.flag (map (λ (t : Step). t.flag) steps))
+
+-- the nulls that stand in place of fields are those of the record
+pub nulls_observed : (s : Schema) (line : List ℕ) (old new : List ColumnStatistics) (refused : Option ℕ) → MatchOption refused ((rows_of s.delimiter.byte line ≡ []) × (new ≡ old)) (IsObserved s.delimiter.byte s.is_lenient s.columns.items line old new) → unwrap_or refused 0 ≡ nulls_under s line
+nulls_observed s line old new None h = sym (ap (untaken_of s.columns.items) h.0)
+nulls_observed s line old new (Some n) h =
+    let columns = s.columns.items in
+    let all : untaken columns h.0 ≡ refused_of (map (λ (t : Step). t.flag) h.2.steps) =
+    ap (λ (cs : List ColumnType). untaken cs h.0) h.2.columns_are ∙ ap (untaken (map (λ (t : Step). t.column) h.2.steps)) h.2.fields_are ∙ steps_untaken s.is_lenient h.2.steps h.2.each in
+    h.2.count ∙ sym all ∙ sym (ap (untaken_of columns) h.1)
+
+-- the sum over the records so far, as far as 64 bits tell
+pub record NullsSeen (f : List ℕ → ℕ) (d : ℕ) (text rest : List ℕ) (nulls : ℕ) : Type 0 where
+  pub done : List (List ℕ)
+  pub records : records_of d text ≡ done ++ records_of d rest
+  pub sum : nulls ≡ told (sum_by f done)
+
+pub nulls_none : (f : List ℕ → ℕ) (d : ℕ) (text : List ℕ) → NullsSeen f d text text 0
+nulls_none f d text = let zero_is : 0 ≡ told (sum_by f []) = omega arith in record { done = []; records = refl; sum = zero_is }
+
+pub nulls_more : (f : List ℕ → ℕ) (d : ℕ) (text rest line after : List ℕ) (nulls more sum : ℕ) → records_of d rest ≡ line ∷ records_of d after → NullsSeen f d text rest nulls → more ≡ f line → sum ≡ told (nulls + more) → NullsSeen f d text after sum
+nulls_more f d text rest line after nulls more sum cut s is sum_is = record {
+  done = s.done ++ line ∷ [];
+  records = s.records ∙ ap (λ (l : List (List ℕ)). s.done ++ l) cut ∙ sym (append_assoc s.done (line ∷ []) (records_of d after));
+  sum = omega (arith, sum_is, is, s.sum, sum_by-append f s.done (line ∷ []));
+}
+
+pub nulls_all : (f : List ℕ → ℕ) (d : ℕ) (text rest : List ℕ) (nulls : ℕ) → rest ≡ [] → NullsSeen f d text rest nulls → nulls ≡ told (sum_by f (records_of d text))
+nulls_all f d text rest nulls none s =
+    let all : s.done ≡ records_of d text = sym (append-nil s.done) ∙ ap (λ (l : List ℕ). s.done ++ records_of d l) (sym none) ∙ sym s.records in
+    s.sum ∙ ap (λ (l : List (List ℕ)). told (sum_by f l)) all
 
 -- ---- one row more
 
@@ -152,22 +217,26 @@ complete_split k rows (r ∷ ss) s h =
     let e : suc k + length ss ≡ k + suc (length ss) = omega arith in
     ((h.0, p.0), subst (λ (j : ℕ). AreComplete (known s) (column j rows)) e p.1)
 
--- the encodings of the first columns' statistics describe these, for any rows that the statistics are complete for
-abbrev pub AreFormsOf : List ColumnType → List ColumnStatistics → List ℕ → Type 0
-AreFormsOf columns ss output = (rows : List (List Cell)) → AreRowsOf columns rows → AreAllComplete 0 rows ss → AreDescribed (take (length ss) columns) rows output
+-- the encodings of the first columns' statistics describe these, for any rows that the statistics are complete for, and fully
+abbrev pub AreEncodingsOf : List ColumnType → ℕ → List ColumnStatistics → List ℕ → Type 0
+AreEncodingsOf columns n ss output = (rows : List (List Cell)) → AreRowsOf columns rows → AreAllComplete 0 rows ss → AreDescribed (take (length ss) columns) rows output × AreDescribedFully n (take (length ss) columns) rows output
 
-pub no_encodings : (columns : List ColumnType) (output : List ℕ) → output ≡ [] → AreFormsOf columns [] output
-no_encodings columns output e rows are all = none_described columns rows output e
+pub no_encodings : (columns : List ColumnType) (n : ℕ) (output : List ℕ) → output ≡ [] → AreEncodingsOf columns n [] output
+no_encodings columns n output e rows are all = (none_described IsRightOf columns rows output e, none_described (IsFullOf n) columns rows output e)
 
-pub encoding_more : (columns : List ColumnType) (n : ℕ) (ss : List ColumnStatistics) (s : ColumnStatistics) (output new : List ℕ) → length ss < length columns → AreFormsOf columns ss output → PushesCut n s output new → AreFormsOf columns (ss ++ s ∷ []) new
+pub encoding_more : (columns : List ColumnType) (n : ℕ) (ss : List ColumnStatistics) (s : ColumnStatistics) (output new : List ℕ) → length ss < length columns → AreEncodingsOf columns n ss output → PushesCut n s output new → AreEncodingsOf columns n (ss ++ s ∷ []) new
 encoding_more columns n ss s output new below before pushed rows are all =
     let p = complete_split 0 rows ss s all in
     let k = length ss in
     let at : 0 + k ≡ k = omega arith in
     let long : k + 1 ≡ length (ss ++ s ∷ []) = omega (arith, length-append ss (s ∷ [])) in
     let complete : AreComplete (known s) (column k rows) = subst (λ (j : ℕ). AreComplete (known s) (column j rows)) at p.1 in
-    subst (λ (j : ℕ). AreDescribed (take j columns) rows new) long
-    (described_more columns rows k n pushed.cut output new below are (before rows are p.0) (record { whole = s; complete = complete; cut = pushed.truncated }) (pushed.right (column k rows) complete.right) pushed.held pushed.fits pushed.appended)
+    let cut : IsCutOf n (column k rows) pushed.cut = record { whole = s; complete = complete; cut = pushed.truncated } in
+    let was = before rows are p.0 in
+    subst (λ (j : ℕ). AreDescribed (take j columns) rows new × AreDescribedFully n (take j columns) rows new) long (
+      described_more columns rows k n pushed.cut output new below are was.0 cut (pushed.right (column k rows) complete.right) pushed.held pushed.fits pushed.appended,
+      fully_more columns rows k n pushed.cut output new below was.1 cut pushed.appended,
+    )
 
 -- what is pushed, if it is
 pub cut_pushed : {T E : Type 0} (r : Result T E) (n : ℕ) (s cut : ColumnStatistics) (old new : List ℕ) → AreTruncated n s cut → ((cells : List Cell) → AreRight (known s) cells → AreRight (known cut) cells)
@@ -175,8 +244,18 @@ pub cut_pushed : {T E : Type 0} (r : Result T E) (n : ℕ) (s cut : ColumnStatis
 cut_pushed (Ok x) n s cut old new truncated right appended held fits = record { cut = cut; truncated = truncated; right = right; held = held; fits = fits; appended = appended }
 cut_pushed (Err e) n s cut old new truncated right appended held fits = tt
 
-pub all_encodings : (columns : List ColumnType) (ss : List ColumnStatistics) (output : List ℕ) → length ss ≡ length columns → AreFormsOf columns ss output → (rows : List (List Cell)) → AreRowsOf columns rows → AreAllComplete 0 rows ss → AreDescribed columns rows output
-all_encodings columns ss output same h rows are all = all_described columns rows (length ss) output (omega (arith, same)) (h rows are all)
+all_encodings : (columns : List ColumnType) (n : ℕ) (ss : List ColumnStatistics) (output : List ℕ) → length ss ≡ length columns → AreEncodingsOf columns n ss output → (rows : List (List Cell)) → AreRowsOf columns rows → AreAllComplete 0 rows ss
+    → AreDescribed columns rows output × AreDescribedFully n columns rows output
+all_encodings columns n ss output same h rows are all =
+    let p = h rows are all in
+    (all_described IsRightOf columns rows (length ss) output (omega (arith, same)) p.0, all_described (IsFullOf n) columns rows (length ss) output (omega (arith, same)) p.1)
+
+-- no column is left
+pub columns_done : (columns : List ColumnType) (n : ℕ) (ss rest given : List ColumnStatistics) (output : List ℕ) → rest ≡ [] → ss ++ rest ≡ given → length given ≡ length columns → AreEncodingsOf columns n ss output → (rows : List (List Cell)) → AreRowsOf columns rows → AreAllComplete 0 rows given
+    → AreDescribed columns rows output × AreDescribedFully n columns rows output
+columns_done columns n ss rest given output none parts same h =
+    let all : ss ≡ given = sym (append-nil ss) ∙ ap (λ (l : List ColumnStatistics). ss ++ l) (sym none) ∙ parts in
+    all_encodings columns n given output same (subst (λ (l : List ColumnStatistics). AreEncodingsOf columns n l output) all h)
 
 pub nothing_left : (ss : List ColumnStatistics) → length ss ≡ 0 → ss ≡ []
 nothing_left [] h = refl

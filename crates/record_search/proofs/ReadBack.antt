@@ -13,7 +13,7 @@ use Rattle.vortex_statistics.specs.Statistics.{AreRight, Known}
 use Rattle.statistics_bytes.proofs.EncodingLaws.{reads_right}
 use Rattle.zone_index.specs.Encoding.{bytes_encoding}
 use Rattle.record_search.specs.Decoding.{after_piece, columns_in, known_before, piece_in, piece_of, statistics_in}
-use Rattle.record_search.specs.Searched.{AreDescribed, AreRightEncodings, IsRightEncoding}
+use Rattle.record_search.specs.Searched.{AreDescribed, AreEncoded, IsRightEncoding, IsRightOf}
 use Rattle.record_search.proofs.DecodeLaws.{read_is}
 
 right_read : KeysAreApart → ValuesHaveNoTyped → (c : ColumnType) (cells : List Cell) (bytes : List ℕ) (s : Known) → IsRightEncoding (column_type c) cells bytes → statistics_in c bytes ≡ Some s → AreRight s cells
@@ -52,7 +52,7 @@ no_columns : (b : Bool) (ss : List Known) → (if b then Some [] else None) ≡ 
 no_columns true ss e = cc
 no_columns false ss e = absurd cc
 
-encodings_read : KeysAreApart → ValuesHaveNoTyped → (k : ℕ) (cs : List ColumnType) (rows : List (List Cell)) (ps : List (List ℕ)) (bytes : List ℕ) (ss : List Known) → bytes ≡ flat_map bytes_encoding ps → AreRightEncodings k cs rows ps → columns_in cs bytes ≡ Some ss
+encodings_read : KeysAreApart → ValuesHaveNoTyped → (k : ℕ) (cs : List ColumnType) (rows : List (List Cell)) (ps : List (List ℕ)) (bytes : List ℕ) (ss : List Known) → bytes ≡ flat_map bytes_encoding ps → AreEncoded IsRightOf k cs rows ps → columns_in cs bytes ≡ Some ss
     → (j : ℕ) (s : Known) → slice_get ss j ≡ Some s → AreRight s (column (k + j) rows)
 encodings_read apart untyped k [] rows [] bytes ss is h e j s at =
     let none : ss ≡ [] = no_columns (length bytes == 0) ss e in
@@ -82,4 +82,4 @@ encodings_read apart untyped k (c ∷ cs) rows (p ∷ ps) bytes ss is h e j s at
 pub described_right : KeysAreApart → ValuesHaveNoTyped → (cs : List ColumnType) (rows : List (List Cell)) (bytes : List ℕ) (ss : List Known) → AreDescribed cs rows bytes → columns_in cs bytes ≡ Some ss → AreStatisticsOf ss rows
 described_right apart untyped cs rows bytes ss h e k s at =
     let place : 0 + k ≡ k = omega arith in
-    subst (λ (n : ℕ). AreRight s (column n rows)) place (encodings_read apart untyped 0 cs rows h.encodings bytes ss h.is h.right e k s at)
+    subst (λ (n : ℕ). AreRight s (column n rows)) place (encodings_read apart untyped 0 cs rows h.encodings bytes ss h.is h.each e k s at)

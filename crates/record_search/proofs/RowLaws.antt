@@ -85,9 +85,14 @@ pub cell_field : (l : Bool) (column : ColumnType) (f : Field) (c : Content) (b :
 cell_field l column f c true e h = rw e (ap (λ (d : Content). Some d) (sym h))
 cell_field l column f c false e h = rw (e, word_to column.kind f.text c h) refl
 
-none_word : (column : ColumnType) (f : Field) (o : Option Content) → word_content column.kind f.text ≡ o → is_null_field column.nullability f ≡ false → HasNoCell column f → o ≡ None
+pub none_word : (column : ColumnType) (f : Field) (o : Option Content) → word_content column.kind f.text ≡ o → is_null_field column.nullability f ≡ false → HasNoCell column f → o ≡ None
 none_word column f None e other none = refl
 none_word column f (Some c) e other none = absurd (none c (subst (λ (b : Bool). MatchBool b (c ≡ null) (Means column.kind f.text c)) (sym other) (word_from column.kind f.text c e)))
+
+-- the column does not take the field
+pub no_content : (column : ColumnType) (f : Field) (b : Bool) → is_null_field column.nullability f ≡ b → HasNoCell column f → field_content false column f ≡ None
+no_content column f true e none = absurd (none null (subst (λ (b : Bool). MatchBool b (null ≡ null) (Means column.kind f.text null)) (sym e) refl))
+no_content column f false e none = rw (e, none_word column f (word_content column.kind f.text) refl e none) refl
 
 lenient_null : (l : Bool) (n : Nullability) → l ≡ true → n ≡ Nullable → or_null l n None ≡ Some null
 lenient_null true Nullable e h = refl

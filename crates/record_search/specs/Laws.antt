@@ -1,5 +1,6 @@
 -- Laws of rows and statistics in a search.
-use Rattle.std.specs.Prelude.{◌≡◌, ℕ, List, [], Bool, not, None, Some, map}
+use Rattle.std.specs.Prelude.{◌≡◌, ◌++◌, ℕ, List, [], Bool, not, Option, None, Some, Ok, length, map}
+use Rattle.std.specs.Io.KnownBytes.{Appends}
 use Rattle.std.specs.List.{AllPass}
 use Rattle.csv_records.specs.Rows.{rows_of}
 use Rattle.record_rows.specs.Rows.{IsRow}
@@ -10,10 +11,14 @@ use Rattle.vortex_value.specs.declared.scalars.Scalar.{Scalar}
 use Rattle.statistics_bytes.specs.Encoding.{encoding}
 use Rattle.zone_index.specs.Encoding.{FitsEncoding, index_value, wanted_of}
 use Rattle.zone_index.specs.Records.{is_same}
+use Rattle.zone_index.specs.Sinks.{written_of}
 use Rattle.zone_index.specs.declared.encoding.Index.{Index}
 use Rattle.zone_index.specs.declared.records.Decision.TheVariants.{AllMatch, NoneMatch}
+use Rattle.zone_index.specs.declared.search.Tally.{Tally}
+use Rattle.zone_index.specs.declared.zones.Zone.{Zone}
+use Rattle.record_search.specs.Answers.{AnswersFindRows}
 use Rattle.record_search.specs.Contents.{row_of}
-use Rattle.record_search.specs.Searched.{DescribeRows, IsRowIndex, decision_of, has_row, matches_record, rows_alone}
+use Rattle.record_search.specs.Searched.{DescribeRows, IsRowIndex, decision_of, has_row, matches_record, records_under, rows_alone}
 use Rattle.record_rows.specs.declared.schema.Schema.{Schema}
 
 -- the computed row is the one that is read, whatever stands in place of a cell; without rows there is none
@@ -38,3 +43,10 @@ abbrev pub IndexesAreReadBack : Type 0
 IndexesAreReadBack = (s : Schema) (n : ℕ) (pieces : List (List (List ℕ))) (wanted : List Bool) (written read : Index) (bytes : List ℕ) → FitsEncoding n (index_value written) pieces
     → index_value read ≡ wanted_of wanted (λ rows. encoding (rows_alone rows)) (index_value written) pieces
     → IsRowIndex s written.start written.zones.items bytes → IsRowIndex s read.start read.zones.items bytes
+
+-- where a search by an index that is right for the bytes has answered, it has written what a search of all records behind the
+-- place of the first one writes
+abbrev pub IndexesFindAll : Type 0
+IndexesFindAll = (s : Schema) (f : Formula) (written_as : ℕ → List ℕ → List ℕ) (first start : ℕ) (zones : List Zone) (front bytes : List ℕ) (old new : Option (List ℕ)) (tally : Tally) → length front ≡ start
+    → IsRowIndex s start zones (front ++ bytes) → AnswersFindRows s f written_as first zones (Some (front ++ bytes)) old new (Ok tally)
+    → Appends old new (written_of written_as (matches_record s f) first (records_under s bytes))

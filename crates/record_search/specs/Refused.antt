@@ -1,8 +1,6 @@
 -- Why a record has no row under a schema.
-use Rattle.std.specs.Prelude.{◌≡◌, ℕ, List, false}
-use Rattle.csv_records.specs.Records.{is_whole}
-use Rattle.csv_records.specs.Rows.{rows_of}
-use Rattle.record_rows.specs.Rows.{HasOtherCount, IsRefused}
+use Rattle.std.specs.Prelude.{ℕ, List}
+use Rattle.record_rows.specs.Rows.{Refuses}
 use Rattle.record_rows.specs.declared.errors.RowReadError.{RowReadError}
 use Rattle.record_rows.specs.declared.errors.RowReadError.TheVariants as row_faults
 use Rattle.zone_index.specs.declared.errors.Cause.{Cause}
@@ -11,11 +9,15 @@ use Rattle.zone_index.specs.declared.errors.RecordError.{RecordError}
 use Rattle.zone_index.specs.declared.errors.RecordError.TheVariants as record_faults
 use Rattle.record_rows.specs.declared.schema.Schema.{Schema}
 
--- a column does not take a word, which is told; or the record has another number of fields; or bytes stand after its row
+-- the error of a row with this cause
+abbrev pub row_fault : Cause → RowReadError
+row_fault (causes.Word column word) = row_faults.Word column word
+row_fault causes.FieldCount = row_faults.FieldCount
+row_fault causes.LoneReturn = row_faults.LoneReturn
+
+-- why a record is refused under a schema: the first error from left to right
 abbrev pub RefusesRecord : Schema → List ℕ → Cause → Type 0
-RefusesRecord s line (causes.Word column word) = IsRefused s.is_lenient s.columns.items (is_whole s.delimiter.byte line) (rows_of s.delimiter.byte line) column word.items
-RefusesRecord s line causes.FieldCount = HasOtherCount s.columns.items (rows_of s.delimiter.byte line)
-RefusesRecord s line causes.LoneReturn = is_whole s.delimiter.byte line ≡ false
+RefusesRecord s line cause = Refuses s.delimiter.byte s.is_lenient s.columns.items line (row_fault cause)
 
 -- the error of a row, of a record that begins at this offset
 abbrev pub fault_at_place : ℕ → RowReadError → RecordError

@@ -1,8 +1,9 @@
 -- Which records match, and what statistics say of their rows.
-use Rattle.std.specs.Prelude.{◌≡◌, ◌++◌, ◌<◌, ◌^◌, ℕ, suc, List, [], ◌∷◌, Bool, false, true, Option, None, Some, Vec, filter_map, if◌then◌else◌, is_some, length, map}
+use Rattle.std.specs.Prelude.{◌≡◌, ◌++◌, ◌<◌, ◌^◌, ◌&&◌, ℕ, suc, List, [], ◌∷◌, Bool, false, true, Option, None, Some, Vec, filter_map, if◌then◌else◌, is_some, length, map, not, ◌+◌, is_none}
 use Rattle.std.specs.Global.{Global}
 use Rattle.std.specs.List.{AllByRecursion, flat_map}
 use Rattle.csv_records.specs.Records.{records_of}
+use Rattle.csv_records.specs.Rows.{Field, rows_of}
 use Rattle.record_rows.specs.Cells.{column_type}
 use Rattle.record_rows.specs.declared.schema.ColumnType.{ColumnType}
 use Rattle.vortex_dtype.specs.TypeTree.{TypeTree}
@@ -24,7 +25,7 @@ use Rattle.zone_index.specs.Zones.{IsIndexOf}
 use Rattle.zone_index.specs.declared.zones.Zone.{Zone}
 use Rattle.zone_index.specs.declared.records.Decision.{Decision}
 use Rattle.zone_index.specs.declared.records.Decision.TheVariants.{AllMatch, NoneMatch, Unknown}
-use Rattle.record_search.specs.Contents.{row_of}
+use Rattle.record_search.specs.Contents.{field_content, row_of}
 use Rattle.record_search.specs.Decoding.{columns_in}
 use Rattle.record_rows.specs.declared.schema.Schema.{Schema}
 
@@ -35,6 +36,16 @@ row_under s line = row_of s.delimiter.byte s.is_lenient s.columns.items line
 -- whether there is one
 abbrev pub has_row : Schema → List ℕ → Bool
 has_row s line = is_some (row_under s line)
+
+-- whether there are fields of a record
+abbrev pub has_fields : List (List Field) → Bool
+has_fields [] = false
+has_fields (fields ∷ others) = true
+
+-- whether a record is refused: it has fields, and they are no row under the schema. One without fields, as an empty line, has
+-- no row and is not refused
+abbrev pub is_refused : Schema → List ℕ → Bool
+is_refused s line = has_fields (rows_of s.delimiter.byte line) && not (has_row s line)
 
 -- the rows of records, in order
 abbrev pub rows_under : Schema → List (List ℕ) → List (List Cell)
@@ -100,6 +111,12 @@ pub record PushesCut (n : ℕ) (s : ColumnStatistics) (old new : List ℕ) : Typ
   pub fits : length (encoding (known cut)) < 2 ^ 64
   pub appended : new ≡ old ++ bytes_encoding (encoding (known cut))
 
+-- the bytes are the encoding of such statistics
+pub record IsFullEncoding (n : ℕ) (cells : List Cell) (bytes : List ℕ) : Type 0 where
+  pub statistics : ColumnStatistics
+  pub cut : IsCutOf n cells statistics
+  pub is : bytes ≡ encoding (known statistics)
+
 -- the bytes are the encoding of statistics of the type that are right for these cells
 pub record IsRightEncoding (t : TypeTree) (cells : List Cell) (bytes : List ℕ) : Type 0 where
   pub fits : length bytes < 2 ^ 64
@@ -113,22 +130,58 @@ pub record IsRightEncoding (t : TypeTree) (cells : List Cell) (bytes : List ℕ)
 abbrev pub rows_alone : ℕ → Known
 rows_alone rows = record { row_count = rows; null_count = None; lower = None; upper = None }
 
--- one such encoding for each column, from this place of a row on
-abbrev pub AreRightEncodings : ℕ → List ColumnType → List (List Cell) → List (List ℕ) → Type 0
-AreRightEncodings k [] rows [] = Unit {0}
-AreRightEncodings k [] rows (p ∷ ps) = ⊥
-AreRightEncodings k (c ∷ cs) rows [] = ⊥
-AreRightEncodings k (c ∷ cs) rows (p ∷ ps) = IsRightEncoding (column_type c) (column k rows) p × AreRightEncodings (suc k) cs rows ps
+-- what the bytes of a column are to be
+abbrev pub IsRightOf : ColumnType → List Cell → List ℕ → Type 0
+IsRightOf c cells bytes = IsRightEncoding (column_type c) cells bytes
 
--- the bytes are such encodings, each after its length
-pub record AreDescribed (columns : List ColumnType) (rows : List (List Cell)) (bytes : List ℕ) : Type 0 where
+abbrev pub IsFullOf : ℕ → ColumnType → List Cell → List ℕ → Type 0
+IsFullOf n c cells bytes = IsFullEncoding n cells bytes
+
+-- there are such bytes for each column, from this place of a row on
+abbrev pub AreEncoded : (ColumnType → List Cell → List ℕ → Type 0) → ℕ → List ColumnType → List (List Cell) → List (List ℕ) → Type 0
+AreEncoded Is k [] rows [] = Unit {0}
+AreEncoded Is k [] rows (p ∷ ps) = ⊥
+AreEncoded Is k (c ∷ cs) rows [] = ⊥
+AreEncoded Is k (c ∷ cs) rows (p ∷ ps) = Is c (column k rows) p × AreEncoded Is (suc k) cs rows ps
+
+-- the bytes are such bytes, each after their length
+pub record AreDescribedBy (Is : ColumnType → List Cell → List ℕ → Type 0) (columns : List ColumnType) (rows : List (List Cell)) (bytes : List ℕ) : Type 0 where
   pub encodings : List (List ℕ)
   pub is : bytes ≡ flat_map bytes_encoding encodings
-  pub right : AreRightEncodings 0 columns rows encodings
+  pub each : AreEncoded Is 0 columns rows encodings
+
+-- the bytes are statistics of each column that are right for the rows
+abbrev pub AreDescribed : List ColumnType → List (List Cell) → List ℕ → Type 0
+AreDescribed columns rows bytes = AreDescribedBy IsRightOf columns rows bytes
+
+-- the bytes say all that is to be known of the rows: of each column the nulls, and both bounds of the values, cut to so many bytes
+abbrev pub AreDescribedFully : ℕ → List ColumnType → List (List Cell) → List ℕ → Type 0
+AreDescribedFully n columns rows bytes = AreDescribedBy (IsFullOf n) columns rows bytes
 
 -- the bytes are statistics that are right for the rows of these records
 abbrev pub DescribeRows : Schema → List ℕ → List (List ℕ) → Type 0
 DescribeRows s bytes records = AreDescribed s.columns.items (rows_under s records) bytes
+
+-- the bytes say all that is to be known of the rows of these records
+abbrev pub DescribeRowsFully : ℕ → Schema → List ℕ → List (List ℕ) → Type 0
+DescribeRowsFully n s bytes records = AreDescribedFully n s.columns.items (rows_under s records) bytes
+
+-- ---- nulls in place of fields
+
+-- how many of the fields their columns do not take
+abbrev pub untaken : List ColumnType → List Field → ℕ
+untaken [] fields = 0
+untaken (c ∷ cs) [] = 0
+untaken (c ∷ cs) (f ∷ fs) = (if is_none (field_content false c f) then 1 else 0) + untaken cs fs
+
+-- the same of the first row of a record
+abbrev pub untaken_of : List ColumnType → List (List Field) → ℕ
+untaken_of columns [] = 0
+untaken_of columns (fields ∷ rows) = untaken columns fields
+
+-- how many fields of a record stand as a null since their columns do not take them
+abbrev pub nulls_under : Schema → List ℕ → ℕ
+nulls_under s line = untaken_of s.columns.items (rows_of s.delimiter.byte line)
 
 -- ---- an index and what is found by it
 
@@ -143,6 +196,10 @@ records_under s bytes = records_of s.delimiter.byte bytes
 -- for its rows
 abbrev pub IsRowIndex : Schema → ℕ → List Zone → List ℕ → Type 0
 IsRowIndex s start zones bytes = IsIndexOf s.delimiter.byte (has_row s) (DescribeRows s) start zones bytes
+
+-- so they are, and the statistics of each say all that is to be known of its rows
+abbrev pub IsFullRowIndex : ℕ → Schema → ℕ → List Zone → List ℕ → Type 0
+IsFullRowIndex n s start zones bytes = IsIndexOf s.delimiter.byte (has_row s) (DescribeRowsFully n s) start zones bytes
 
 -- ---- decisions
 

@@ -1,9 +1,9 @@
 //! The rows of a zone are described.
 
-ghost use Rattle.std.specs.Prelude.{◌≡◌, ◌++◌, ◌<◌, ◌^◌, List, [], IfErr, IfOk, OnOk, length};
+ghost use Rattle.std.specs.Prelude.{◌≡◌, ◌++◌, ◌<◌, ◌^◌, List, [], IfErr, IfOk, None, OnOk, false, length, sum_by, true};
 ghost use Rattle.std.specs.Int.{to_le_bytes, w64};
 ghost use Rattle.csv_records.specs.Records.{records_of};
-ghost use Rattle.record_search.specs.Words.{AreAllComplete, AreDescribed, AreRowsOf, Cell, DescribeRows, IfRecordRefused, IsHeldKnown, ObservesRow, PushesCut, RefusesRecord, TellsOneOf, TellsRecord, bytes_encoding, encoding, has_row, known, row_under, rows_under};
+ghost use Rattle.record_search.specs.Words.{AreAllComplete, AreDescribed, AreDescribedFully, AreRowsOf, Cell, DescribeRows, DescribeRowsFully, IfRecordRefused, IsHeldKnown, ObservesRow, PushesCut, RefusesRecord, TellsOffset, TellsOneOf, TellsRecord, before_refused, bytes_encoding, encoding, has_row, is_refused, known, nulls_under, row_under, rows_under, told};
 
 use crate::schema::{Schema, record_fault};
 use csv_records::{Delimiter, cut_record};
@@ -29,6 +29,8 @@ impl Records for RowDescriber<'_> {
 
     ghost Describes = { λ d. DescribeRows d.schema.now };
 
+    ghost is_refused = { λ d. is_refused d.schema.now };
+
     ghost Refuses = { λ d. RefusesRecord d.schema.now };
 
     fn delimiter_byte(&self) -> Delimiter {
@@ -37,6 +39,10 @@ impl Records for RowDescriber<'_> {
 }
 
 impl Describer for RowDescriber<'_> {
+    ghost DescribesFully = { λ d. DescribeRowsFully d.bound_length d.schema.now };
+
+    ghost nulls_of = { λ d. nulls_under d.schema.now };
+
     fn describe(&self, alloc: Global, text: &[u8]) -> Result<Described, RecordError> {
         let mut columns = empty_statistics(alloc, self.schema.columns.len())?;
         let (records, rows, nulls) = observe_text(alloc, self.schema, text, &mut columns)?;
@@ -80,9 +86,15 @@ fn observe_text(
         length (rows_under schema.now (records_of schema.now.delimiter.byte text.now))) }
     ensures complete { OnOk result (AreAllComplete 0
         (rows_under schema.now (records_of schema.now.delimiter.byte text.now)) statistics.new) }
+    ensures nulls { IfOk result (λ read. read.2 ≡
+        told (sum_by (nulls_under schema.now) (records_of schema.now.delimiter.byte text.now))) }
     ensures length { length statistics.new ≡ length statistics.old }
+    ensures passed { OnOk result (before_refused (is_refused schema.now)
+        (records_of schema.now.delimiter.byte text.now) ≡ None) }
     ensures refused { IfErr result (IfRecordRefused (TellsOneOf (RefusesRecord schema.now) 0
         (records_of schema.now.delimiter.byte text.now))) }
+    ensures first { IfErr result (IfRecordRefused (TellsOffset 0 (before_refused (is_refused schema.now)
+        (records_of schema.now.delimiter.byte text.now)))) }
 {
     let mut records = 0u64;
     let mut rows = 0u64;
@@ -114,8 +126,11 @@ fn observe_line(
     requires { length statistics.old ≡ length schema.now.columns.items }
     ensures observed { IfOk result (λ seen. ObservesRow seen.0 (row_under schema.now line.now)
         statistics.old statistics.new) }
+    ensures nulls { IfOk result (λ seen. seen.1 ≡ nulls_under schema.now line.now) }
     ensures length { length statistics.new ≡ length statistics.old }
+    ensures passed { OnOk result (is_refused schema.now line.now ≡ false) }
     ensures refused { IfErr result (IfRecordRefused (TellsRecord (RefusesRecord schema.now) place line.now)) }
+    ensures right { IfErr result (IfRecordRefused (λ _. is_refused schema.now line.now ≡ true)) }
 {
     match observe_record(alloc, schema, line, buffer, statistics) {
         Ok(nulls) => Ok((nulls.is_some(), nulls.unwrap_or(0) as u64)),
@@ -130,9 +145,12 @@ fn encodings_of(
     statistics: Vec<ColumnStatistics>,
 ) -> Result<Vec<u8>, AllocError>
     requires { length statistics.items ≡ length describer.now.schema.now.columns.items }
-    ensures { IfOk result (λ bytes. (rows : List (List Cell))
+    ensures right { IfOk result (λ bytes. (rows : List (List Cell))
         → AreRowsOf describer.now.schema.now.columns.items rows → AreAllComplete 0 rows statistics.items
         → AreDescribed describer.now.schema.now.columns.items rows bytes.items) }
+    ensures full { IfOk result (λ bytes. (rows : List (List Cell))
+        → AreRowsOf describer.now.schema.now.columns.items rows → AreAllComplete 0 rows statistics.items
+        → AreDescribedFully describer.now.bound_length describer.now.schema.now.columns.items rows bytes.items) }
 {
     let mut output = Vec::new(alloc);
     for column in statistics {

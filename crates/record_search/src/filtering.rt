@@ -1,7 +1,7 @@
 //! A filter says which records match.
 
 ghost use Rattle.std.specs.Prelude.{◌≡◌};
-ghost use Rattle.record_search.specs.Words.{DescribeRows, RefusesRecord, decision_by, decision_of, formula, has_row, matches_record};
+ghost use Rattle.record_search.specs.Words.{DescribeRows, RefusesRecord, decision_by, decision_of, formula, has_row, is_refused, matches_record};
 
 use crate::laws::decisions_are_right;
 use crate::naming::named_columns;
@@ -29,6 +29,8 @@ impl Records for RowFilter<'_> {
     ghost has_row = { λ m. has_row m.schema.now };
 
     ghost Describes = { λ m. DescribeRows m.schema.now };
+
+    ghost is_refused = { λ m. is_refused m.schema.now };
 
     ghost Refuses = { λ m. RefusesRecord m.schema.now };
 

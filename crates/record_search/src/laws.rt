@@ -3,7 +3,7 @@
 //! These functions do nothing when they run. The contract of each is a law over the definitions in
 //! `specs/`, and its proof is the law's proof.
 
-ghost use Rattle.record_search.specs.Laws.{DecisionsAreRight, IndexesAreReadBack, RowsAreRead};
+ghost use Rattle.record_search.specs.Laws.{DecisionsAreRight, IndexesAreReadBack, IndexesFindAll, RowsAreRead};
 
 use vortex_row::laws::{keys_are_apart, values_have_no_typed};
 use vortex_value::laws::{order_is_reversed, order_is_transitive};
@@ -28,4 +28,9 @@ pub fn decisions_are_right()
 /// statistics that say the number of rows alone stand in place of those that are not wanted.
 pub fn indexes_are_read_back()
     ensures { IndexesAreReadBack }
+{}
+
+/// A search by an index that is right for a file writes what a search of the whole file does.
+pub fn indexes_find_all()
+    ensures { IndexesFindAll }
 {}

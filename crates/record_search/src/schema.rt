@@ -1,7 +1,7 @@
 //! Records are read as rows under a schema.
 
-ghost use Rattle.std.specs.Prelude.{◌≡◌, None, Some, IfErr, IfOk, if◌then◌else◌, map, option_map};
-ghost use Rattle.record_search.specs.Words.{AgreeAsRows, IfRecordRefused, RefusesRecord, TellsRecord, cell_of, fault_at_place, row_cells, row_under};
+ghost use Rattle.std.specs.Prelude.{◌≡◌, None, Some, IfErr, IfOk, OnOk, false, if◌then◌else◌, map, option_map, true};
+ghost use Rattle.record_search.specs.Words.{AgreeAsRows, IfRecordRefused, RefusesRecord, TellsRecord, cell_of, fault_at_place, is_refused, row_cells, row_under};
 
 pub use record_rows::Schema;
 use record_rows::{RowReadError, read_cells, read_row};
@@ -9,8 +9,8 @@ use std::alloc::Global;
 use vortex_value::Scalar;
 use zone_index::{Cause, RecordError, Refusal};
 
-/// The row of a record, which stands at this offset; `None` where it has none, as an empty line.
-/// `Refused` where the columns do not take it.
+/// The row of a record, which stands at this offset; `None` only if it has no fields, as an empty line.
+/// `Refused`, with the first error from left to right, if they are no row.
 pub fn row_of_record(
     alloc: Global,
     schema: &Schema,
@@ -18,7 +18,9 @@ pub fn row_of_record(
     line: &[u8],
 ) -> Result<Option<Vec<Scalar>>, RecordError>
     ensures row { IfOk result (λ row. option_map row_cells row ≡ row_under schema.now line.now) }
+    ensures passed { OnOk result (is_refused schema.now line.now ≡ false) }
     ensures refused { IfErr result (IfRecordRefused (TellsRecord (RefusesRecord schema.now) place line.now)) }
+    ensures right { IfErr result (IfRecordRefused (λ _. is_refused schema.now line.now ≡ true)) }
 {
     let mut row = Vec::with_capacity(alloc, schema.columns.len())?;
     match read_row(alloc, schema, line, &mut row) {
@@ -40,7 +42,9 @@ pub(crate) fn cells_of_record(
 ) -> Result<bool, RecordError>
     ensures row { IfOk result (λ has. AgreeAsRows wanted.now
         (if has then Some (map cell_of row.new.items) else None) (row_under schema.now line.now)) }
+    ensures passed { OnOk result (is_refused schema.now line.now ≡ false) }
     ensures refused { IfErr result (IfRecordRefused (TellsRecord (RefusesRecord schema.now) place line.now)) }
+    ensures right { IfErr result (IfRecordRefused (λ _. is_refused schema.now line.now ≡ true)) }
 {
     match read_cells(alloc, schema, wanted, line, row) {
         Ok(Some(_)) => Ok(true),

@@ -1,7 +1,7 @@
 //! Rows are indexed, found and counted.
 
-ghost use Rattle.std.specs.Prelude.{◌≡◌, ◌≢◌, ◌<◌, ◌++◌, ℕ, List, Some, IfErr, IfOk, length};
-ghost use Rattle.record_search.specs.Words.{AnswersCountRows, AnswersFindRows, Asks, CutShort, EndsFar, IfRefused, IsOfZone, IsPartOfZone, IsRowIndex, RefusesRecord, TellsOneOf, TooFar, FailedWrite, columns_of, decision_of, formula, records_under};
+ghost use Rattle.std.specs.Prelude.{◌≡◌, ◌≢◌, ◌<◌, ◌++◌, [], ℕ, List, None, Some, IfErr, IfOk, OnOk, length, sum_by};
+ghost use Rattle.record_search.specs.Words.{AnswersCountRows, AnswersFindRows, Asks, CutShort, EndsFar, HaveSizes, IfRefused, IsFullRowIndex, IsOfZone, IsPartOfZone, IsRowIndex, RefusesRecord, TellsOffset, TellsOneOf, TooFar, FailedWrite, before_refused, columns_of, decision_of, formula, is_refused, nulls_under, records_under, told};
 
 use crate::describing::RowDescriber;
 use crate::filtering::RowFilter;
@@ -14,7 +14,7 @@ use zone_index::{Indexed, ReadAt, SearchError, Sink, Tally, Zone, count, find, i
 /// The zones of all records that a reader has left, so many records in each, the last one fewer.
 /// The first byte that is left stands at `start` in the file.
 ///
-/// `Refused` where the columns do not take a record.
+/// `Refused` with the first record that has fields that are no row, exactly if one has.
 pub fn index_rows<B: BufRead>(
     alloc: Global,
     describer: &RowDescriber<'_>,
@@ -26,6 +26,16 @@ pub fn index_rows<B: BufRead>(
     ensures right { IfOk result (λ indexed. (before bytes : List ℕ) → length before ≡ start
         → B.remaining reader.old ≡ Some bytes
         → IsRowIndex describer.now.schema.now start indexed.zones.items (before ++ bytes)) }
+    // The statistics of each zone say all that is to be known of its rows.
+    ensures full { IfOk result (λ indexed. (before bytes : List ℕ) → length before ≡ start
+        → B.remaining reader.old ≡ Some bytes
+        → IsFullRowIndex describer.now.bound_length describer.now.schema.now start indexed.zones.items
+        (before ++ bytes)) }
+    ensures sizes { IfOk result (λ indexed. (bytes : List ℕ) → B.remaining reader.old ≡ Some bytes
+        → HaveSizes size indexed.zones.items) }
+    ensures nulls { IfOk result (λ indexed. (bytes : List ℕ) → B.remaining reader.old ≡ Some bytes
+        → indexed.nulls ≡ told (sum_by (nulls_under describer.now.schema.now)
+        (records_under describer.now.schema.now bytes))) }
     ensures reading { IfErr result (λ fault. fault ≢ FailedWrite) }
     ensures uncut { IfErr result (λ fault. fault ≢ CutShort) }
     ensures far { IfErr result (λ fault. fault ≡ TooFar → EndsFar start (B.remaining reader.old)) }
@@ -33,6 +43,14 @@ pub fn index_rows<B: BufRead>(
     ensures refused { IfErr result (IfRefused (λ refusal. (bytes : List ℕ) → B.remaining reader.old ≡ Some bytes
         → TellsOneOf (RefusesRecord describer.now.schema.now) start
         (records_under describer.now.schema.now bytes) refusal)) }
+    ensures passed { OnOk result ((bytes : List ℕ) → B.remaining reader.old ≡ Some bytes
+        → before_refused (is_refused describer.now.schema.now)
+        (records_under describer.now.schema.now bytes) ≡ None) }
+    ensures ended { OnOk result ((bytes : List ℕ) → B.remaining reader.old ≡ Some bytes
+        → B.remaining reader.new ≡ Some []) }
+    ensures first { IfErr result (IfRefused (λ refusal. (bytes : List ℕ) → B.remaining reader.old ≡ Some bytes
+        → TellsOffset start (before_refused (is_refused describer.now.schema.now)
+        (records_under describer.now.schema.now bytes)) refusal)) }
 {
     index_records(alloc, size, start, describer, reader)
 }
@@ -51,6 +69,7 @@ pub fn find_rows<R: ReadAt, S: Sink>(
 ) -> Result<Tally, SearchError>
     ensures answer { AnswersFindRows schema.now (formula filter.now) S.written_as first zones.now
         (R.bytes reader.old) (S.contents sink.old) (S.contents sink.new) result }
+    ensures kept { R.bytes reader.new ≡ R.bytes reader.old }
     // All that the reader was asked for stands in zones that are not skipped.
     ensures asks { Asks (IsOfZone (decision_of (columns_of schema.now) (formula filter.now)) zones.now)
         (R.asked reader.old) (R.asked reader.new) }
@@ -75,6 +94,7 @@ pub fn count_rows<R: ReadAt>(
     reader: &mut R,
 ) -> Result<u64, SearchError>
     ensures answer { AnswersCountRows schema.now (formula filter.now) zones.now (R.bytes reader.old) result }
+    ensures kept { R.bytes reader.new ≡ R.bytes reader.old }
     // All that the reader was asked for stands in zones whose statistics decide nothing.
     ensures asks { Asks (IsPartOfZone (decision_of (columns_of schema.now) (formula filter.now)) zones.now)
         (R.asked reader.old) (R.asked reader.new) }

@@ -9,6 +9,7 @@ pub mod EncodingLaws
 pub mod ReadSteps
 pub mod Refusing
 pub mod Rests
+pub mod Sifting
 pub mod Sinking
 pub mod Sizing
 pub mod TakeMore

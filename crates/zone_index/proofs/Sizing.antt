@@ -1,8 +1,10 @@
--- Zones of so many records.
-use Rattle.std.proofs.Common.{◌≡◌, ◌<◌, ◌≤◌, ◌+◌, ◌⊎◌, inl, inr, ℕ, List, [], ◌∷◌, ◌++◌, Option, Some, refl, sym, ap, ◌∙◌, subst, length, min, arith}
+-- Zones of so many records, and a sum over the records of a stream.
+use Rattle.std.proofs.Common.{◌≡◌, ◌<◌, ◌≤◌, ◌+◌, ◌⊎◌, inl, inr, ℕ, List, [], ◌∷◌, ◌++◌, Option, Some, refl, sym, ap, ◌∙◌, subst, length, min, arith, append_assoc, append-nil}
 use Rattle.std.proofs.lemmas.List.{length-append}
-use Rattle.std.specs.List.{AllByRecursion}
+use Rattle.std.proofs.lemmas.List.Sums.{sum_by-append}
+use Rattle.std.specs.List.{AllByRecursion, sum_by}
 use Rattle.csv_records.specs.Records.{records_of}
+use Rattle.zone_index.specs.Sinks.{told}
 use Rattle.zone_index.specs.Taking.{IsTaken}
 use Rattle.zone_index.specs.Zones.{HaveSizes}
 use Rattle.zone_index.specs.declared.zones.Zone.{Zone}
@@ -73,3 +75,35 @@ all_sized size zones left some s = by_sizes s.sizes
     by_sizes : AreFull size zones ⊎ (HaveSizes size zones × (s.rest ≡ [])) → HaveSizes size zones
     by_sizes (inl h) = full_sized size zones some h
     by_sizes (inr h) = h.0
+
+-- ---- a sum
+
+-- the sum over the records so far, as far as 64 bits tell; the others are left
+pub record Summed (d : ℕ) (f : List ℕ → ℕ) (bytes : List ℕ) (left : Option (List ℕ)) (total : ℕ) : Type 0 where
+  pub rest : List ℕ
+  pub is : left ≡ Some rest
+  pub done : List (List ℕ)
+  pub records : records_of d bytes ≡ done ++ records_of d rest
+  pub sum : total ≡ told (sum_by f done)
+
+pub none_summed : (d : ℕ) (f : List ℕ → ℕ) (bytes : List ℕ) (left : Option (List ℕ)) → left ≡ Some bytes → Summed d f bytes left 0
+none_summed d f bytes left is = record { rest = bytes; is = is; done = []; records = refl; sum = omega arith }
+
+-- a piece more
+pub one_summed : (d e : ℕ) (f : List ℕ → ℕ) (bytes text view : List ℕ) (left next : Option (List ℕ)) (total more sum : ℕ) (s : Summed d f bytes left total) → e ≡ d → IsTaken e s.rest text next → view ≡ text
+    → more ≡ told (sum_by f (records_of d view)) → sum ≡ told (total + more) → Summed d f bytes next sum
+one_summed d e f bytes text view left next total more sum s by taken same more_is sum_is =
+    let own : IsTaken d s.rest text next = subst (λ (n : ℕ). IsTaken n s.rest text next) by taken in
+    let here : more ≡ told (sum_by f (records_of d text)) = more_is ∙ ap (λ (l : List ℕ). told (sum_by f (records_of d l))) same in
+    record {
+      rest = own.rest;
+      is = own.is;
+      done = s.done ++ records_of d text;
+      records = s.records ∙ ap (λ (l : List (List ℕ)). s.done ++ l) own.records ∙ sym (append_assoc s.done (records_of d text) (records_of d own.rest));
+      sum = omega (arith, sum_is, here, s.sum, sum_by-append f s.done (records_of d text));
+    }
+
+pub all_summed : (d : ℕ) (f : List ℕ → ℕ) (bytes : List ℕ) (left : Option (List ℕ)) (total : ℕ) (s : Summed d f bytes left total) → s.rest ≡ [] → total ≡ told (sum_by f (records_of d bytes))
+all_summed d f bytes left total s none =
+    let all : s.done ≡ records_of d bytes = sym (append-nil s.done) ∙ ap (λ (l : List ℕ). s.done ++ records_of d l) (sym none) ∙ sym s.records in
+    s.sum ∙ ap (λ (l : List (List ℕ)). told (sum_by f l)) all

@@ -1,5 +1,5 @@
 -- Errors that tell where.
-use Rattle.std.specs.Prelude.{◌≡◌, ◌≤◌, ◌+◌, ◌-◌, ◌^◌, ◌++◌, ◌∷◌, ℕ, List, Option, Some, length, min}
+use Rattle.std.specs.Prelude.{◌≡◌, ◌≤◌, ◌+◌, ◌-◌, ◌^◌, ◌++◌, ◌∷◌, [], ℕ, List, Bool, Option, None, Some, if◌then◌else◌, length, min, option_map}
 use Rattle.std.specs.List.{concat}
 use Rattle.zone_index.specs.declared.errors.Cause.{Cause}
 use Rattle.zone_index.specs.declared.errors.SearchError.{SearchError}
@@ -56,6 +56,16 @@ IfRefused P errors.Memory = Unit {0}
 abbrev pub IfRecordRefused : (Refusal → Type 0) → RecordError → Type 0
 IfRecordRefused P (record_faults.Refused refusal) = P refusal
 IfRecordRefused P record_faults.Memory = Unit {0}
+
+-- how many bytes stand before the first of these records that is refused, if one is
+abbrev pub before_refused : (List ℕ → Bool) → List (List ℕ) → Option ℕ
+before_refused is_refused [] = None
+before_refused is_refused (line ∷ lines) = if is_refused line then Some 0 else option_map (λ n. length line + n) (before_refused is_refused lines)
+
+-- it tells the offset so many bytes behind this one, as far as 64 bits tell
+abbrev pub TellsOffset : ℕ → Option ℕ → Refusal → Type 0
+TellsOffset first None refusal = ⊥
+TellsOffset first (Some n) refusal = refusal.place ≡ min (first + n) (2 ^ 64 - 1)
 
 -- it tells that this record is refused, which begins at this offset
 pub record TellsRecord (Refuses : List ℕ → Cause → Type 0) (place : ℕ) (line : List ℕ) (refusal : Refusal) : Type 0 where

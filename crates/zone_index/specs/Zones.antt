@@ -1,9 +1,10 @@
 -- Zones of the records of a file, and when an index is right.
-use Rattle.std.specs.Prelude.{◌≡◌, ◌<◌, ◌≤◌, ◌+◌, ◌==◌, ℕ, List, [], ◌∷◌, Bool, true, false, not, Option, Some, drop, length, take, count_by, Contains, if◌then◌else◌}
+use Rattle.std.specs.Prelude.{◌≡◌, ◌<◌, ◌≤◌, ◌+◌, ◌==◌, ℕ, List, [], ◌∷◌, Bool, true, false, not, Option, None, Some, drop, length, take, count_by, Contains, if◌then◌else◌}
 use Rattle.std.specs.List.{All, AllPass, flat_map}
 use Rattle.csv_records.specs.Records.{records_of}
 use Rattle.zone_index.specs.Records.{kept_of}
 use Rattle.zone_index.specs.Asking.{IsWithin}
+use Rattle.zone_index.specs.Errors.{before_refused}
 use Rattle.zone_index.specs.declared.read_at.Asked.{Asked}
 use Rattle.zone_index.specs.declared.records.Decision.{Decision}
 use Rattle.zone_index.specs.declared.records.Decision.TheVariants as decisions
@@ -66,6 +67,18 @@ pub record IsHeld (known : Option (List ℕ)) (was : List ℕ) : Type 0 where
 abbrev pub found_in : ℕ → (List ℕ → Bool) → List ℕ → List Zone → List ℕ
 found_in delimiter keep bytes zones = flat_map (λ z. kept_of delimiter keep (zone_bytes bytes z)) zones
 
+-- so many bytes behind this place, or else the other place
+abbrev pub offset_or : ℕ → Option ℕ → Option ℕ → Option ℕ
+offset_or first None other = other
+offset_or first (Some n) other = Some (first + n)
+
+-- where the first record of these zones begins that is refused; only of the zones that are read
+abbrev pub refused_in : (List ℕ → Bool) → (Zone → Bool) → (Zone → List (List ℕ)) → List Zone → Option ℕ
+refused_in is_refused is_read records [] = None
+refused_in is_refused is_read records (z ∷ zones) =
+    let others = refused_in is_refused is_read records zones in
+    if is_read z then offset_or z.first (before_refused is_refused (records z)) others else others
+
 -- ---- what becomes of a zone
 
 -- by what its statistics decide. One with empty lines is not written whole, since these have no row
@@ -122,6 +135,10 @@ abbrev pub is_open : Decision → Bool
 is_open decisions.NoneMatch = false
 is_open decisions.AllMatch = false
 is_open decisions.Unknown = true
+
+-- whether the statistics of a zone decide nothing
+abbrev pub is_undecided : (List ℕ → Decision) → Zone → Bool
+is_undecided decides z = is_open (decides z.statistics.items)
 
 -- these bytes are of this zone, whose statistics decide nothing
 abbrev pub AsksInPart : (List ℕ → Decision) → Zone → Asked → Type 0

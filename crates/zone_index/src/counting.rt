@@ -1,11 +1,11 @@
 //! Records are counted.
 
-ghost use Rattle.std.specs.Prelude.{◌≡◌, ◌≢◌, ◌<◌, ◌≤◌, ◌+◌, ◌-◌, ◌^◌, ℕ, List, IfErr, IfOk, IfSome, length, count_by, drop, if◌then◌else◌};
+ghost use Rattle.std.specs.Prelude.{◌≡◌, ◌≢◌, ◌<◌, ◌≤◌, ◌+◌, ◌-◌, ◌^◌, ℕ, List, IfErr, IfOk, IfSome, None, OnOk, length, count_by, drop, if◌then◌else◌, true};
 ghost use Rattle.csv_records.specs.Records.{records_of};
 ghost use Rattle.zone_index.specs.Answers.{AnswersCount};
 ghost use Rattle.zone_index.specs.Asking.{Asks};
-ghost use Rattle.zone_index.specs.Errors.{IfRefused, IsOfRecord, TellsOneOf};
-ghost use Rattle.zone_index.specs.Zones.{AsksInPart, IsHeld, IsIndexOf, IsPartOfZone, IsZoneOf, zone_records};
+ghost use Rattle.zone_index.specs.Errors.{IfRefused, IsOfRecord, TellsOneOf, TellsOffset, before_refused};
+ghost use Rattle.zone_index.specs.Zones.{AsksInPart, IsHeld, IsIndexOf, IsPartOfZone, IsZoneOf, is_undecided, zone_records};
 ghost use Rattle.zone_index.specs.declared.errors.SearchError.TheVariants.{CutShort, TooFar, Write as FailedWrite};
 
 use crate::errors::SearchError;
@@ -25,8 +25,9 @@ pub fn count<R: ReadAt, M: Matcher>(
 ) -> Result<u64, SearchError>
     ensures answer { AnswersCount
         (IsIndexOf (M.delimiter matcher.now) (M.has_row matcher.now) (M.Describes matcher.now))
-        (M.Refuses matcher.now) (M.delimiter matcher.now) (M.matches matcher.now) zones.now
-        (R.bytes reader.old) result }
+        (M.Refuses matcher.now) (M.is_refused matcher.now) (M.delimiter matcher.now) (M.matches matcher.now)
+        (M.decides matcher.now) zones.now (R.bytes reader.old) result }
+    ensures kept { R.bytes reader.new ≡ R.bytes reader.old }
     // All that the reader was asked for stands in zones whose statistics decide nothing.
     ensures asks { Asks (IsPartOfZone (M.decides matcher.now) zones.now) (R.asked reader.old) (R.asked reader.new) }
 {
@@ -64,6 +65,14 @@ fn count_zone<R: ReadAt, M: Matcher>(
         → zone.now.first + zone.now.length ≤ length was
         → TellsOneOf (M.Refuses matcher.now) zone.now.first
         (zone_records (M.delimiter matcher.now) was zone.now) refusal)) }
+    ensures passed { OnOk result ((was : List ℕ) → IsHeld (R.bytes reader.old) was
+        → zone.now.first + zone.now.length ≤ length was → is_undecided (M.decides matcher.now) zone.now ≡ true
+        → before_refused (M.is_refused matcher.now) (zone_records (M.delimiter matcher.now) was zone.now) ≡ None) }
+    // The one that is told is the first.
+    ensures first { IfErr result (IfRefused (λ refusal. (was : List ℕ) → IsHeld (R.bytes reader.old) was
+        → zone.now.first + zone.now.length ≤ length was → (is_undecided (M.decides matcher.now) zone.now ≡ true)
+        × TellsOffset zone.now.first (before_refused (M.is_refused matcher.now)
+        (zone_records (M.delimiter matcher.now) was zone.now)) refusal)) }
 {
     let decision = matcher.decide(alloc, &zone.statistics)?;
     match decision {
@@ -89,6 +98,10 @@ pub(crate) fn count_in<M: Matcher>(
     ensures why { IfErr result IsOfRecord }
     ensures refused { IfErr result (IfRefused (TellsOneOf (M.Refuses matcher.now) first
         (records_of (M.delimiter matcher.now) text.now))) }
+    ensures passed { OnOk result (before_refused (M.is_refused matcher.now)
+        (records_of (M.delimiter matcher.now) text.now) ≡ None) }
+    ensures first { IfErr result (IfRefused (TellsOffset first (before_refused (M.is_refused matcher.now)
+        (records_of (M.delimiter matcher.now) text.now)))) }
 {
     let mut hits = 0u64;
     let mut scratch = matcher.scratch(alloc);

@@ -1,6 +1,6 @@
 //! Why an index or a search stops.
 
-ghost use Rattle.std.specs.Prelude.{◌≡◌};
+ghost use Rattle.std.specs.Prelude.{◌≡◌, ◌≢◌};
 ghost use Rattle.zone_index.specs.declared.errors.SearchError.TheVariants.{Memory};
 ghost use Rattle.zone_index.specs.declared.errors.RecordError.TheVariants.{Memory as NoMemory};
 
@@ -90,11 +90,16 @@ impl<T: Drop> From<AllocFailed<T>> for SearchError {
 }
 
 impl SearchError {
+    ghost use Rattle.std.specs.IoError.{error_kind};
+    ghost use Rattle.std.specs.declared.io.ErrorKind.TheVariants.{OutOfMemory};
     ghost use Rattle.zone_index.specs.Errors.{IsOfStream};
+    ghost use Rattle.zone_index.specs.declared.errors.SearchError.TheVariants.{Read};
 
     /// Why nothing more was read: a read failed, or no memory was left for it.
     pub(crate) fn of_read(error: io::Error) -> SearchError
-        ensures { IsOfStream result }
+        ensures memory { error_kind error ≡ OutOfMemory → result ≡ Memory }
+        ensures read { error_kind error ≢ OutOfMemory → result ≡ Read }
+        ensures stream { IsOfStream result }
     {
         match error.kind() {
             ErrorKind::OutOfMemory => SearchError::Memory,

@@ -1,8 +1,9 @@
 //! An index is made of a stream.
 
-ghost use Rattle.std.specs.Prelude.{◌≡◌, ◌≢◌, ◌<◌, ◌++◌, ℕ, List, Some, IfErr, IfOk, length};
+ghost use Rattle.std.specs.Prelude.{◌≡◌, ◌≢◌, ◌<◌, ◌++◌, [], ℕ, List, None, Some, IfErr, IfOk, OnOk, length, sum_by};
 ghost use Rattle.csv_records.specs.Records.{records_of};
-ghost use Rattle.zone_index.specs.Errors.{EndsFar, IfRefused, IsOfRecord, TellsOneOf};
+ghost use Rattle.zone_index.specs.Errors.{EndsFar, IfRefused, IsOfRecord, TellsOffset, TellsOneOf, before_refused};
+ghost use Rattle.zone_index.specs.Sinks.{told};
 ghost use Rattle.zone_index.specs.Zones.{HaveSizes, IsIndexOf, IsZoneOfText};
 ghost use Rattle.zone_index.specs.declared.errors.SearchError.TheVariants.{CutShort, TooFar, Write as FailedWrite};
 
@@ -25,6 +26,8 @@ pub struct Indexed {
 
 /// The zones of all records that a reader has left, so many records in each, the last one fewer.
 /// The first byte that is left stands at `start` in the file.
+///
+/// `Refused` with the first record that is refused, exactly if one is.
 pub fn index_records<B: BufRead, D: Describer>(
     alloc: Global,
     size: u64,
@@ -37,14 +40,29 @@ pub fn index_records<B: BufRead, D: Describer>(
         → B.remaining reader.old ≡ Some bytes
         → IsIndexOf (D.delimiter describer.now) (D.has_row describer.now) (D.Describes describer.now)
         start indexed.zones.items (before ++ bytes)) }
+    // The statistics of each zone are those that the describer gives of its records.
+    ensures full { IfOk result (λ indexed. (before bytes : List ℕ) → length before ≡ start
+        → B.remaining reader.old ≡ Some bytes
+        → IsIndexOf (D.delimiter describer.now) (D.has_row describer.now) (D.DescribesFully describer.now)
+        start indexed.zones.items (before ++ bytes)) }
     ensures sizes { IfOk result (λ indexed. (bytes : List ℕ) → B.remaining reader.old ≡ Some bytes
         → HaveSizes size indexed.zones.items) }
+    ensures nulls { IfOk result (λ indexed. (bytes : List ℕ) → B.remaining reader.old ≡ Some bytes
+        → indexed.nulls ≡ told (sum_by (D.nulls_of describer.now)
+        (records_of (D.delimiter describer.now) bytes))) }
     ensures reading { IfErr result (λ fault. fault ≢ FailedWrite) }
     ensures uncut { IfErr result (λ fault. fault ≢ CutShort) }
     ensures far { IfErr result (λ fault. fault ≡ TooFar → EndsFar start (B.remaining reader.old)) }
     // The record that is told is one of those, and begins there.
     ensures refused { IfErr result (IfRefused (λ refusal. (bytes : List ℕ) → B.remaining reader.old ≡ Some bytes
         → TellsOneOf (D.Refuses describer.now) start (records_of (D.delimiter describer.now) bytes) refusal)) }
+    ensures passed { OnOk result ((bytes : List ℕ) → B.remaining reader.old ≡ Some bytes
+        → before_refused (D.is_refused describer.now) (records_of (D.delimiter describer.now) bytes) ≡ None) }
+    ensures ended { OnOk result ((bytes : List ℕ) → B.remaining reader.old ≡ Some bytes
+        → B.remaining reader.new ≡ Some []) }
+    ensures first { IfErr result (IfRefused (λ refusal. (bytes : List ℕ) → B.remaining reader.old ≡ Some bytes
+        → TellsOffset start (before_refused (D.is_refused describer.now)
+        (records_of (D.delimiter describer.now) bytes)) refusal)) }
 {
     let delimiter = describer.delimiter_byte();
     let mut zones = Vec::new(alloc);
@@ -77,9 +95,17 @@ fn zone_of<D: Describer>(
 ) -> Result<(Zone, u64), SearchError>
     ensures zone { IfOk result (λ made. IsZoneOfText (D.delimiter describer.now) (D.has_row describer.now)
         (D.Describes describer.now) first text.now made.0) }
+    ensures full { IfOk result (λ made. IsZoneOfText (D.delimiter describer.now) (D.has_row describer.now)
+        (D.DescribesFully describer.now) first text.now made.0) }
+    ensures nulls { IfOk result (λ made. made.1 ≡ told (sum_by (D.nulls_of describer.now)
+        (records_of (D.delimiter describer.now) text.now))) }
     ensures why { IfErr result IsOfRecord }
     ensures refused { IfErr result (IfRefused (TellsOneOf (D.Refuses describer.now) first
         (records_of (D.delimiter describer.now) text.now))) }
+    ensures passed { OnOk result (before_refused (D.is_refused describer.now)
+        (records_of (D.delimiter describer.now) text.now) ≡ None) }
+    ensures first { IfErr result (IfRefused (TellsOffset first (before_refused (D.is_refused describer.now)
+        (records_of (D.delimiter describer.now) text.now)))) }
 {
     match describer.describe(alloc, text) {
         Ok(described) => {

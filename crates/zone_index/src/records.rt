@@ -1,10 +1,11 @@
 //! What records mean to an index and a search.
 
-ghost use Rattle.std.specs.Prelude.{◌≡◌, ℕ, List, Bool, IfErr, IfOk, length, not, count_by};
+ghost use Rattle.std.specs.Prelude.{◌≡◌, ℕ, List, Bool, IfErr, IfOk, None, OnOk, false, length, not, count_by, true, sum_by};
 ghost use Rattle.std.specs.List.{AllPass};
 ghost use Rattle.csv_records.specs.Records.{records_of};
-ghost use Rattle.zone_index.specs.Errors.{IfRecordRefused, TellsOneOf, TellsRecord};
+ghost use Rattle.zone_index.specs.Errors.{IfRecordRefused, TellsOffset, TellsOneOf, TellsRecord, before_refused};
 ghost use Rattle.zone_index.specs.Records.{is_same};
+ghost use Rattle.zone_index.specs.Sinks.{told};
 ghost use Rattle.zone_index.specs.declared.errors.Cause.{Cause};
 ghost use Rattle.zone_index.specs.declared.records.Decision.{Decision};
 ghost use Rattle.zone_index.specs.declared.records.Decision.TheVariants.{AllMatch, NoneMatch};
@@ -46,7 +47,9 @@ pub trait Records {
     ghost has_row: { Self → List ℕ → Bool };
     // The bytes are statistics that are right for the rows of these records.
     ghost Describes: { Self → List ℕ → List (List ℕ) → Type 0 };
-    // Why a record that is refused has no row.
+    // Whether a record is refused: it has fields, and they are no row.
+    ghost is_refused: { Self → List ℕ → Bool };
+    // Why a record is refused.
     ghost Refuses: { Self → List ℕ → Cause → Type 0 };
 
     /// The byte between two fields.
@@ -56,7 +59,13 @@ pub trait Records {
 
 /// Describes the records of a zone.
 pub trait Describer: Records {
-    /// What is known of the records of a text. `Refused` with the offset of a record in the text.
+    // The bytes are the statistics that are to be given of the rows of these records, and no weaker ones.
+    ghost DescribesFully: { Self → List ℕ → List (List ℕ) → Type 0 };
+    // How many fields of a record stand as a null since their columns do not take them.
+    ghost nulls_of: { Self → List ℕ → ℕ };
+
+    /// What is known of the records of a text. `Refused` with the offset in the text of the first
+    /// record that is refused, exactly if one is.
     fn describe(&self, alloc: Global, text: &[u8]) -> Result<Described, RecordError>
         ensures records { IfOk result (λ d. d.records ≡
             length (records_of (Self.delimiter self.now) text.now)) }
@@ -64,8 +73,16 @@ pub trait Describer: Records {
             count_by (Self.has_row self.now) (records_of (Self.delimiter self.now) text.now)) }
         ensures describes { IfOk result (λ d. Self.Describes self.now d.statistics.items
             (records_of (Self.delimiter self.now) text.now)) }
+        ensures full { IfOk result (λ d. DescribesFully self.now d.statistics.items
+            (records_of (Self.delimiter self.now) text.now)) }
+        ensures nulls { IfOk result (λ d. d.nulls ≡ told (sum_by (nulls_of self.now)
+            (records_of (Self.delimiter self.now) text.now))) }
+        ensures passed { OnOk result (before_refused (Self.is_refused self.now)
+            (records_of (Self.delimiter self.now) text.now) ≡ None) }
         ensures refused { IfErr result (IfRecordRefused (TellsOneOf (Self.Refuses self.now) 0
-            (records_of (Self.delimiter self.now) text.now))) };
+            (records_of (Self.delimiter self.now) text.now))) }
+        ensures first { IfErr result (IfRecordRefused (TellsOffset 0 (before_refused (Self.is_refused self.now)
+            (records_of (Self.delimiter self.now) text.now)))) };
 }
 
 /// Says which records match.
@@ -81,7 +98,7 @@ pub trait Matcher: Records {
     /// Such a buffer, with nothing in it.
     fn scratch(&self, alloc: Global) -> Self::Scratch;
 
-    /// Whether a record has a row, which matches. `Refused` with the offset 0.
+    /// Whether a record has a row, which matches. `Refused`, with the offset 0, exactly if it is refused.
     fn is_match(
         &self,
         alloc: Global,
@@ -89,7 +106,9 @@ pub trait Matcher: Records {
         line: &[u8],
     ) -> Result<bool, RecordError>
         ensures hit { IfOk result (λ hit. hit ≡ matches self.now line.now) }
-        ensures refused { IfErr result (IfRecordRefused (TellsRecord (Self.Refuses self.now) 0 line.now)) };
+        ensures passed { OnOk result (Self.is_refused self.now line.now ≡ false) }
+        ensures refused { IfErr result (IfRecordRefused (TellsRecord (Self.Refuses self.now) 0 line.now)) }
+        ensures right { IfErr result (IfRecordRefused (λ _. Self.is_refused self.now line.now ≡ true)) };
 
     /// What statistics say of the rows that they are of.
     fn decide(&self, alloc: Global, statistics: &[u8]) -> Result<Decision, AllocError>

@@ -1,13 +1,13 @@
 //! The search.
 
-ghost use Rattle.std.specs.Prelude.{◌≡◌, ◌≢◌, ◌<◌, ◌≤◌, ◌+◌, ◌++◌, ◌-◌, ◌^◌, ℕ, List, [], IfErr, IfOk, IfSome, OnOk, count_by, if◌then◌else◌, length, min, true};
+ghost use Rattle.std.specs.Prelude.{◌≡◌, ◌≢◌, ◌<◌, ◌≤◌, ◌+◌, ◌++◌, ◌-◌, ◌^◌, ℕ, List, [], IfErr, IfOk, IfSome, None, OnOk, count_by, false, if◌then◌else◌, length, min, true};
 ghost use Rattle.std.specs.Io.KnownBytes.{Appends};
 ghost use Rattle.csv_records.specs.Records.{records_of};
 ghost use Rattle.zone_index.specs.Answers.{AnswersFind};
 ghost use Rattle.zone_index.specs.Asking.{Asks, AsksWithin};
-ghost use Rattle.zone_index.specs.Errors.{IfRefused, IsOfReading, IsOfRecord, TellsOneOf, TellsRecord};
+ghost use Rattle.zone_index.specs.Errors.{IfRefused, IsOfReading, IsOfRecord, TellsOneOf, TellsOffset, TellsRecord, before_refused};
 ghost use Rattle.zone_index.specs.Sinks.{told, written_of};
-ghost use Rattle.zone_index.specs.Zones.{AsksOfZone, IsHeld, IsIndexOf, IsOfZone, IsWayOf, IsZoneOf, is_copy, is_search, is_skip, way_of, zone_bytes, zone_records};
+ghost use Rattle.zone_index.specs.Zones.{AsksOfZone, IsHeld, IsIndexOf, IsOfZone, IsWayOf, IsZoneOf, is_copy, is_search, is_searched, is_skip, way_of, zone_bytes, zone_records};
 ghost use Rattle.zone_index.specs.declared.errors.SearchError.TheVariants.{CutShort, TooFar, Write as FailedWrite};
 
 use crate::counting::one_more;
@@ -64,8 +64,9 @@ pub fn find<R: ReadAt, M: Matcher, S: Sink>(
 ) -> Result<Tally, SearchError>
     ensures answer { AnswersFind
         (IsIndexOf (M.delimiter matcher.now) (M.has_row matcher.now) (M.Describes matcher.now))
-        (M.Refuses matcher.now) (M.delimiter matcher.now) (M.matches matcher.now) (M.decides matcher.now)
-        S.written_as first zones.now (R.bytes reader.old) (S.contents sink.old) (S.contents sink.new) result }
+        (M.Refuses matcher.now) (M.is_refused matcher.now) (M.delimiter matcher.now) (M.matches matcher.now)
+        (M.decides matcher.now) S.written_as first zones.now (R.bytes reader.old) (S.contents sink.old) (S.contents sink.new) result }
+    ensures kept { R.bytes reader.new ≡ R.bytes reader.old }
     // All that the reader was asked for stands in zones that are not skipped.
     ensures asks { Asks (IsOfZone (M.decides matcher.now) zones.now) (R.asked reader.old) (R.asked reader.new) }
 {
@@ -113,6 +114,14 @@ fn answer_zone<R: ReadAt, M: Matcher, S: Sink>(
         → zone.now.first + zone.now.length ≤ length was
         → TellsOneOf (M.Refuses matcher.now) zone.now.first
         (zone_records (M.delimiter matcher.now) was zone.now) refusal)) }
+    ensures passed { OnOk result ((was : List ℕ) → IsHeld (R.bytes reader.old) was
+        → zone.now.first + zone.now.length ≤ length was → is_searched (M.decides matcher.now) zone.now ≡ true
+        → before_refused (M.is_refused matcher.now) (zone_records (M.delimiter matcher.now) was zone.now) ≡ None) }
+    // The one that is told is the first.
+    ensures first { IfErr result (IfRefused (λ refusal. (was : List ℕ) → IsHeld (R.bytes reader.old) was
+        → zone.now.first + zone.now.length ≤ length was → (is_searched (M.decides matcher.now) zone.now ≡ true)
+        × TellsOffset zone.now.first (before_refused (M.is_refused matcher.now)
+        (zone_records (M.delimiter matcher.now) was zone.now)) refusal)) }
 {
     let way = way_of_zone(alloc, zone, matcher)?;
     match way {
@@ -218,6 +227,10 @@ pub(crate) fn give_hits<M: Matcher, S: Sink>(
     ensures why { IfErr result IsOfRecord }
     ensures refused { IfErr result (IfRefused (TellsOneOf (M.Refuses matcher.now) start.place
         (records_of (M.delimiter matcher.now) text.now))) }
+    ensures passed { OnOk result (before_refused (M.is_refused matcher.now)
+        (records_of (M.delimiter matcher.now) text.now) ≡ None) }
+    ensures first { IfErr result (IfRefused (TellsOffset start.place (before_refused (M.is_refused matcher.now)
+        (records_of (M.delimiter matcher.now) text.now)))) }
 {
     sink.begin();
     let mut number = start.number;
@@ -264,7 +277,9 @@ pub(crate) fn is_hit<M: Matcher>(
 ) -> Result<bool, SearchError>
     ensures hit { IfOk result (λ hit. hit ≡ M.matches matcher.now line.now) }
     ensures why { IfErr result IsOfRecord }
+    ensures passed { OnOk result (M.is_refused matcher.now line.now ≡ false) }
     ensures refused { IfErr result (IfRefused (TellsRecord (M.Refuses matcher.now) place line.now)) }
+    ensures right { IfErr result (IfRefused (λ _. M.is_refused matcher.now line.now ≡ true)) }
 {
     match matcher.is_match(alloc, scratch, line) {
         Ok(hit) => Ok(hit),

@@ -1,9 +1,9 @@
 //! The records of a stream are searched.
 
-ghost use Rattle.std.specs.Prelude.{◌≡◌, ◌≢◌, ◌<◌, ◌++◌, ℕ, List, Some, IfErr, IfOk, OnOk, count_by};
+ghost use Rattle.std.specs.Prelude.{◌≡◌, ◌≢◌, ◌<◌, ◌++◌, [], ℕ, List, None, Some, IfErr, IfOk, OnOk, count_by};
 ghost use Rattle.std.specs.Io.KnownBytes.{Appends};
 ghost use Rattle.csv_records.specs.Records.{records_of};
-ghost use Rattle.zone_index.specs.Errors.{EndsFar, IfRefused, TellsOneOf};
+ghost use Rattle.zone_index.specs.Errors.{EndsFar, IfRefused, TellsOneOf, TellsOffset, before_refused};
 ghost use Rattle.zone_index.specs.Records.{kept_of};
 ghost use Rattle.zone_index.specs.Sinks.{IsPlain, written_of};
 ghost use Rattle.zone_index.specs.declared.errors.SearchError.TheVariants.{CutShort, TooFar, Write as FailedWrite};
@@ -19,8 +19,7 @@ use std::alloc::Global;
 use std::io::BufRead;
 
 /// Gives a sink the records that a reader has left and that match, in order, and writes them. Says
-/// how many they are. So many records are in memory at a time. The first one that is left stands at
-/// `start`.
+/// how many they are. Takes `size` records at a time. The first one that is left stands at `start`.
 pub fn find_rest<B: BufRead, M: Matcher, S: Sink>(
     alloc: Global,
     size: u64,
@@ -50,6 +49,13 @@ pub fn find_rest<B: BufRead, M: Matcher, S: Sink>(
     // The record that is told is one of those, and begins there.
     ensures refused { IfErr result (IfRefused (λ refusal. (bytes : List ℕ) → B.remaining reader.old ≡ Some bytes
         → TellsOneOf (M.Refuses matcher.now) start.place (records_of (M.delimiter matcher.now) bytes) refusal)) }
+    ensures passed { OnOk result ((bytes : List ℕ) → B.remaining reader.old ≡ Some bytes
+        → before_refused (M.is_refused matcher.now) (records_of (M.delimiter matcher.now) bytes) ≡ None) }
+    ensures ended { OnOk result ((bytes : List ℕ) → B.remaining reader.old ≡ Some bytes
+        → B.remaining reader.new ≡ Some []) }
+    ensures first { IfErr result (IfRefused (λ refusal. (bytes : List ℕ) → B.remaining reader.old ≡ Some bytes
+        → TellsOffset start.place (before_refused (M.is_refused matcher.now)
+        (records_of (M.delimiter matcher.now) bytes)) refusal)) }
 {
     let delimiter = matcher.delimiter_byte();
     let mut text = Vec::new(alloc);
@@ -78,7 +84,7 @@ pub fn find_rest<B: BufRead, M: Matcher, S: Sink>(
     }
 }
 
-/// How many of the records that a reader has left match. So many records are in memory at a time.
+/// How many of the records that a reader has left match. Takes `size` records at a time.
 /// The first byte that is left stands at `start`.
 pub fn count_rest<B: BufRead, M: Matcher>(
     alloc: Global,
@@ -96,6 +102,13 @@ pub fn count_rest<B: BufRead, M: Matcher>(
     // The record that is told is one of those, and begins there.
     ensures refused { IfErr result (IfRefused (λ refusal. (bytes : List ℕ) → B.remaining reader.old ≡ Some bytes
         → TellsOneOf (M.Refuses matcher.now) start (records_of (M.delimiter matcher.now) bytes) refusal)) }
+    ensures passed { OnOk result ((bytes : List ℕ) → B.remaining reader.old ≡ Some bytes
+        → before_refused (M.is_refused matcher.now) (records_of (M.delimiter matcher.now) bytes) ≡ None) }
+    ensures ended { OnOk result ((bytes : List ℕ) → B.remaining reader.old ≡ Some bytes
+        → B.remaining reader.new ≡ Some []) }
+    ensures first { IfErr result (IfRefused (λ refusal. (bytes : List ℕ) → B.remaining reader.old ≡ Some bytes
+        → TellsOffset start (before_refused (M.is_refused matcher.now)
+        (records_of (M.delimiter matcher.now) bytes)) refusal)) }
 {
     let delimiter = matcher.delimiter_byte();
     let mut text = Vec::new(alloc);

@@ -13,6 +13,10 @@ pub record IsName (name : List ℕ) : Type 0 where
   pub some : 0 < length name
   pub one_line : All (λ b. b ≢ 10) name
 
+-- each name that is given to a column is kept, if it is one and no column before is given the same
+abbrev pub KeepsNames : List (List ℕ) → List (List ℕ) → Type 0
+KeepsNames given names = (k : ℕ) → k < length names → k < length given → IsName (slice_index_or given k []) → ¬ (Contains (take k given) (slice_index_or given k [])) → slice_index_or names k [] ≡ slice_index_or given k []
+
 -- the name of a column without one: its number behind $, or the word for whole lines
 abbrev pub made_up : Bool → ℕ → List ℕ
 made_up are_divided place = if are_divided then 36 ∷ decimal (min (place + 1) (18446744073709551615)) else codes "line"

@@ -1,5 +1,7 @@
 //! What is wanted of the records that match is written or counted.
 
+ghost use Rattle.std.specs.Prelude.{◌≡◌, ◌==◌, if◌then◌else◌};
+
 use crate::files::{at_place, buffered};
 use crate::loading::Sought;
 use crate::watching::Watched;
@@ -39,8 +41,12 @@ impl FoundNew {
     const NOTHING: FoundNew = FoundNew { rows: 0, bytes: 0 };
 }
 
-/// The first record that is a row, if so many bytes of a header stand before it.
-pub fn first_row(start: u64) -> Position {
+/// The first record that is a row, if so many bytes of a header stand before it. A header is the first
+/// record of its file.
+pub fn first_row(start: u64) -> Position
+    ensures place { result.place ≡ start }
+    ensures number { result.number ≡ (if start == 0 then 1 else 2) }
+{
     Position {
         place: start,
         number: if start == 0 { 1 } else { 2 },

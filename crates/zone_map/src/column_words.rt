@@ -1,10 +1,13 @@
 //! Columns: their names and kinds, as words and as a text.
 
+ghost use Rattle.std.specs.Prelude.{◌≡◌, ◌++◌, OnOk, Some, string_bytes};
+ghost use Rattle.zone_map.specs.Setups.{kind_text, kind_word};
+ghost use Rattle.record_rows.specs.declared.schema.ColumnType.{ColumnType};
+
 use crate::names::is_name;
 use crate::program_errors::ProgramError;
 use record_rows::{ColumnType, Kind};
 use std::alloc::{AllocError, Global};
-use std::fmt::Write;
 use vortex_dtype::{Nullability, PType};
 
 /// A column with its name.
@@ -151,17 +154,20 @@ fn push_name(text: &mut String, name: &str) -> Result<(), AllocError> {
 }
 
 /// Appends a kind, with `?` behind it if the column takes nulls.
-pub fn push_kind(text: &mut String, column: ColumnType) -> Result<(), AllocError> {
-    let word = kind_word(column.kind);
+pub fn push_kind(text: &mut String, column: ColumnType) -> Result<(), AllocError>
+    ensures { OnOk result (string_bytes text.new ≡ string_bytes text.old ++ kind_text column) }
+{
+    text.push_str(kind_word(column.kind))?;
     match column.nullability {
-        Nullability::Nullable => write!(text, "{word}?")?,
-        Nullability::NonNullable => write!(text, "{word}")?,
+        Nullability::Nullable => text.push('?'),
+        Nullability::NonNullable => Ok(()),
     }
-    Ok(())
 }
 
 /// The word for a kind.
-fn kind_word(kind: Kind) -> &'static str {
+fn kind_word(kind: Kind) -> &'static str
+    ensures { result.now ≡ kind_word kind }
+{
     match kind {
         Kind::Integer(PType::I8) => "i8",
         Kind::Integer(PType::I16) => "i16",
@@ -177,7 +183,9 @@ fn kind_word(kind: Kind) -> &'static str {
 }
 
 /// The type that a kind says, with `?` behind it for one that takes nulls.
-pub fn column_of(text: &str) -> Option<ColumnType> {
+pub fn column_of(text: &str) -> Option<ColumnType>
+    ensures { (column : ColumnType) → text.now ≡ kind_text column → result ≡ Some column }
+{
     let (word, nullability) = match text.strip_suffix('?') {
         Some(word) => (word, Nullability::Nullable),
         None => (text, Nullability::NonNullable),

@@ -1,5 +1,10 @@
 //! Files that grew since they were indexed.
 
+ghost use Rattle.std.specs.Prelude.{◌≡◌};
+ghost use Rattle.csv_records.specs.Records.{is_start, state_at};
+ghost use Rattle.csv_records.specs.Rows.{state_after};
+ghost use Rattle.csv_records.specs.declared.states.RecordState.TheVariants.{StartRecord};
+
 use csv_records::{Delimiter, RecordState, state_after_line};
 use record_search::{RowDescriber, index_rows};
 use std::alloc::Global;
@@ -95,7 +100,9 @@ fn is_only_zone(zones: &[Zone], zone: &Zone) -> bool {
 }
 
 /// Whether a record may start behind a text that begins where one does.
-fn ends_record(delimiter: Delimiter, text: &[u8]) -> bool {
+fn ends_record(delimiter: Delimiter, text: &[u8]) -> bool
+    ensures { result ≡ is_start (state_after delimiter.byte (state_at StartRecord) text.now) }
+{
     match state_after_line(delimiter, RecordState::StartRecord, text) {
         RecordState::StartRecord => true,
         RecordState::AfterCr

@@ -1,7 +1,7 @@
 //! The names of columns.
 
-ghost use Rattle.std.specs.Prelude.{◌≡◌, IfOk, MatchBool, Contains, string_bytes};
-ghost use Rattle.zone_map.specs.Names.{IsFirstFree, IsName, made_up, texts};
+ghost use Rattle.std.specs.Prelude.{◌≡◌, ◌≢◌, ◌<◌, ◌≤◌, ◌⊎◌, ◌++◌, ◌∷◌, ℕ, [], IfNone, IfOk, IfSome, MatchBool, All, AllPairs, Contains, length, slice_index_or, string_bytes};
+ghost use Rattle.zone_map.specs.Names.{IsFirstFree, IsName, KeepsNames, made_up, texts};
 
 use std::alloc::{AllocError, Global};
 
@@ -40,7 +40,12 @@ pub fn names_for(
     are_divided: bool,
     count: usize,
     given: &[String],
-) -> Result<Vec<String>, AllocError> {
+) -> Result<Vec<String>, AllocError>
+    ensures count { IfOk result (λ names. length names.items ≡ count) }
+    ensures valid { IfOk result (λ names. All IsName (texts names.items)) }
+    ensures distinct { IfOk result (λ names. AllPairs (λ a b. a ≢ b) (texts names.items)) }
+    ensures kept { IfOk result (λ names. KeepsNames (texts given.now) (texts names.items)) }
+{
     let mut names = Vec::new(alloc);
     for place in 0..count {
         let name = name_at(alloc, are_divided, place, given, &names)?;
@@ -56,15 +61,39 @@ fn name_at(
     place: usize,
     given: &[String],
     names: &[String],
-) -> Result<String, AllocError> {
+) -> Result<String, AllocError>
+    ensures valid { IfOk result (λ name. IsName (string_bytes name)) }
+    ensures other { IfOk result (λ name. ¬ (Contains (texts names.now) (string_bytes name))) }
+    // It is given only here.
+    ensures own { IfOk result (λ name. Contains (texts given.now) (string_bytes name)
+        → string_bytes name ≡ slice_index_or (texts given.now) place []) }
+    ensures kept { IfOk result (λ name. place < length given.now
+        → IsName (slice_index_or (texts given.now) place [])
+        → ¬ (Contains (texts names.now) (slice_index_or (texts given.now) place []))
+        → string_bytes name ≡ slice_index_or (texts given.now) place []) }
+{
     match given_name(place, given, names) {
-        Some(name) => String::from_str(alloc, name),
-        None => free_name(first_name(alloc, are_divided, place)?, given, names),
+        Some(name) => {
+            let name = String::from_str(alloc, name)?;
+            Ok(name)
+        }
+        None => {
+            let first = first_name(alloc, are_divided, place)?;
+            let name = free_name(first, given, names)?;
+            Ok(name)
+        }
     }
 }
 
 /// The name that is given for this place, if it is one, and none of those before it.
-fn given_name<'a>(place: usize, given: &'a [String], names: &[String]) -> Option<&'a str> {
+fn given_name<'a>(place: usize, given: &'a [String], names: &[String]) -> Option<&'a str>
+    ensures is { IfSome result (λ name. name.now ≡ slice_index_or (texts given.now) place []) }
+    ensures valid { IfSome result (λ name. IsName name.now) }
+    ensures other { IfSome result (λ name. ¬ (Contains (texts names.now) name.now)) }
+    ensures none { IfNone result (place < length given.now
+        → IsName (slice_index_or (texts given.now) place [])
+        → Contains (texts names.now) (slice_index_or (texts given.now) place [])) }
+{
     if place >= given.len() {
         return None;
     }

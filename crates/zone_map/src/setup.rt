@@ -1,5 +1,12 @@
 //! How a file is read, in words and in the bytes of its index.
 
+ghost use Rattle.std.specs.Prelude.{◌≡◌, ◌<◌, ◌^◌, ◌++◌, ◌∷◌, Bool, List, ℕ, [], IfOk, IsSomeAnd, IsUtf8, OnOk, Some, string_bytes, if◌then◌else◌};
+ghost use Rattle.std.specs.Fmt.{decimal};
+ghost use Rattle.zone_map.specs.Setups.{ColumnValue, FitNumbers, HaveNames, IsSetup, SetupValue, column_line, column_lines, column_values, kind_text, numbers_text, setup_text, setup_value};
+ghost use Rattle.zone_map.specs.Names.{IsName};
+ghost use Rattle.zone_map.specs.declared.setup.Numbers.{Numbers};
+ghost use Rattle.record_rows.specs.declared.schema.ColumnType.{ColumnType};
+
 use crate::column_words::{NamedColumn, column_of, push_kind};
 use crate::names::is_name;
 use crate::program_errors::ProgramError;
@@ -42,25 +49,23 @@ pub struct Numbers {
 
 impl Setup {
     /// The same as text: a line of numbers, and a line for each column, its kind and its name.
-    pub fn to_text(&self, alloc: Global) -> Result<String, AllocError> {
-        let Numbers {
-            delimiter,
-            is_lenient,
-            bound_length,
-            zone_rows,
-        } = self.numbers;
-        let lenient = u8::from(is_lenient);
+    pub fn to_text(&self, alloc: Global) -> Result<String, AllocError>
+        ensures { IfOk result (λ text. string_bytes text ≡ setup_text (setup_value self.now)) }
+    {
         let mut text = String::new(alloc);
-        writeln!(text, "{delimiter} {lenient} {bound_length} {zone_rows}")?;
+        push_numbers(&mut text, self.numbers)?;
         for named in &self.columns {
-            push_kind(&mut text, named.column)?;
-            writeln!(text, " {}", named.name)?;
+            push_column(&mut text, named)?;
         }
         Ok(text)
     }
 
     /// What such a text says.
-    pub fn from_text(alloc: Global, bytes: &[u8]) -> Result<Option<Setup>, AllocError> {
+    pub fn from_text(alloc: Global, bytes: &[u8]) -> Result<Option<Setup>, AllocError>
+        // The text of a setup is read back.
+        ensures { IfOk result (λ found. (s : SetupValue) → IsSetup s → IsUtf8 bytes.now → bytes.now ≡ setup_text s
+            → IsSomeAnd found (λ setup. setup_value setup ≡ s)) }
+    {
         match parts_of(bytes) {
             Some((numbers, lines)) => match columns_of_lines(alloc, lines)? {
                 Some(columns) => Ok(Some(Setup { numbers, columns })),
@@ -99,45 +104,115 @@ impl Setup {
     }
 }
 
+/// Appends the line of a setup's numbers.
+fn push_numbers(text: &mut String, numbers: Numbers) -> Result<(), AllocError>
+    ensures { OnOk result (string_bytes text.new ≡ string_bytes text.old ++ (numbers_text numbers ++ 10 ∷ [])) }
+{
+    let Numbers {
+        delimiter,
+        is_lenient,
+        bound_length,
+        zone_rows,
+    } = numbers;
+    let lenient = u8::from(is_lenient);
+    writeln!(text, "{delimiter} {lenient} {bound_length} {zone_rows}")?;
+    Ok(())
+}
+
+/// Appends the line of a column: its kind and its name.
+fn push_column(text: &mut String, named: &NamedColumn) -> Result<(), AllocError>
+    ensures { OnOk result (string_bytes text.new ≡ string_bytes text.old
+        ++ column_line (record { name = string_bytes named.now.name; column = named.now.column })) }
+{
+    push_kind(text, named.column)?;
+    writeln!(text, " {}", named.name)?;
+    Ok(())
+}
+
 /// The numbers of a setup's text, and the lines of its columns.
-fn parts_of(bytes: &[u8]) -> Option<(Numbers, &str)> {
-    let text = str::from_utf8(bytes).ok()?;
+fn parts_of(bytes: &[u8]) -> Option<(Numbers, &str)>
+    ensures { (s : SetupValue) → IsSetup s → IsUtf8 bytes.now → bytes.now ≡ setup_text s
+        → IsSomeAnd result (λ parts. (parts.0 ≡ s.numbers) × (parts.1.now ≡ column_lines s.columns)) }
+{
+    let Ok(text) = str::from_utf8(bytes) else {
+        return None;
+    };
     let (line, columns) = text.split_once('\n')?;
-    Some((numbers_of(line)?, columns))
+    let numbers = numbers_of(line)?;
+    Some((numbers, columns))
 }
 
 /// The numbers of a line, if they are so many.
-fn numbers_of(line: &str) -> Option<Numbers> {
-    let mut words = line.split(' ');
-    let numbers = Numbers {
-        delimiter: words.next()?.parse::<u8>().ok()?,
-        is_lenient: words.next()? == "1",
-        bound_length: words.next()?.parse::<usize>().ok()?,
-        zone_rows: words.next()?.parse::<u64>().ok()?,
-    };
-    match words.next() {
-        Some(_) => None,
-        None => Some(numbers),
+fn numbers_of(line: &str) -> Option<Numbers>
+    ensures { (numbers : Numbers) → FitNumbers numbers → line.now ≡ numbers_text numbers → result ≡ Some numbers }
+{
+    let (delimiter, after_delimiter) = number_before(line)?;
+    let (lenient, after_lenient) = number_before(after_delimiter)?;
+    let (bound_length, rows) = number_before(after_lenient)?;
+    if delimiter > u64::from(u8::MAX) {
+        return None;
+    }
+    let is_lenient = flag_of(lenient)?;
+    match rows.parse::<u64>() {
+        Ok(zone_rows) => Some(Numbers {
+            delimiter: delimiter as u8,
+            is_lenient,
+            bound_length: bound_length as usize,
+            zone_rows,
+        }),
+        Err(_) => None,
+    }
+}
+
+/// The number before the first blank of a text, and what follows that.
+fn number_before(text: &str) -> Option<(u64, &str)>
+    ensures { (n : ℕ) (rest : List ℕ) → n < 2 ^ 64 → text.now ≡ decimal n ++ 32 ∷ rest
+        → IsSomeAnd result (λ cut. (cut.0 ≡ n) × (cut.1.now ≡ rest)) }
+{
+    let (word, rest) = text.split_once(' ')?;
+    match word.parse::<u64>() {
+        Ok(number) => Some((number, rest)),
+        Err(_) => None,
+    }
+}
+
+/// The flag that 0 and 1 are.
+fn flag_of(number: u64) -> Option<bool>
+    ensures { (flag : Bool) → number ≡ (if flag then 1 else 0) → result ≡ Some flag }
+{
+    match number {
+        0 => Some(false),
+        1 => Some(true),
+        _ => None,
     }
 }
 
 /// The columns of lines, if each is a kind and a name.
-fn columns_of_lines(alloc: Global, lines: &str) -> Result<Option<Vec<NamedColumn>>, AllocError> {
+fn columns_of_lines(alloc: Global, lines: &str) -> Result<Option<Vec<NamedColumn>>, AllocError>
+    ensures { IfOk result (λ found. (columns : List ColumnValue) → HaveNames columns → (lines.now ≡ column_lines columns)
+        → IsSomeAnd found (λ named. column_values named.items ≡ columns)) }
+{
     let mut columns = Vec::new(alloc);
-    for line in lines.split_terminator('\n') {
-        match column_of_line(line) {
-            Some((column, name)) => {
-                let name = String::from_str(alloc, name)?;
-                columns.push(NamedColumn { name, column })?;
-            }
-            None => return Ok(None),
-        }
+    let mut rest = lines;
+    while !rest.is_empty() {
+        let Some((line, after)) = rest.split_once('\n') else {
+            return Ok(None);
+        };
+        let Some((column, name)) = column_of_line(line) else {
+            return Ok(None);
+        };
+        let name = String::from_str(alloc, name)?;
+        columns.push(NamedColumn { name, column })?;
+        rest = after;
     }
     Ok(Some(columns))
 }
 
 /// The column of a line, and its name.
-fn column_of_line(line: &str) -> Option<(ColumnType, &str)> {
+fn column_of_line(line: &str) -> Option<(ColumnType, &str)>
+    ensures { (column : ColumnValue) → IsName column.name → line.now ≡ kind_text column.column ++ 32 ∷ column.name
+        → IsSomeAnd result (λ found. (found.0 ≡ column.column) × (found.1.now ≡ column.name)) }
+{
     let (word, name) = line.split_once(' ')?;
     let column = column_of(word)?;
     if is_name(name) {

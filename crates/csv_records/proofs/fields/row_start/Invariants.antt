@@ -1,10 +1,10 @@
 -- What was passed adds no row.
 use Rattle.std.proofs.Common.{◌≡◌, ◌≤◌, ℕ, length}
-use Rattle.csv_records.specs.Words.{is_whole, rows_of}
+use Rattle.csv_records.specs.Words.{rows_of}
 use Rattle.csv_records.proofs.fields.row_start.Given as goal
 
 abbrev pub invariant-loop-rest : goal.invariant-loop-rest
-invariant-loop-rest l = ((d : ℕ) → (rows_of d l.line ≡ rows_of d l.rest) × (is_whole d l.line ≡ is_whole d l.rest)) × (length l.rest ≤ length l.line)
+invariant-loop-rest l = ((d : ℕ) → rows_of d l.line ≡ rows_of d l.rest) × (length l.rest ≤ length l.line)
 
 abbrev pub decreases-loop-rest : goal.decreases-loop-rest
 decreases-loop-rest l = length l.rest

@@ -4,7 +4,7 @@ use Rattle.std.proofs.lemmas.List.{get_or_default}
 use Rattle.std.proofs.lemmas.Result.{err_from_is_err_and}
 use Rattle.record_rows.specs.Observed.{Step}
 use Rattle.record_rows.specs.Walks.{IsNext}
-use Rattle.record_rows.proofs.ObservedFields.{ended, more}
+use Rattle.record_rows.proofs.ObservedFields.{begun_taken, ended, more}
 use Rattle.record_rows.proofs.Reading.{one_at_most}
 use Rattle.record_rows.proofs.Walking.{word_refused}
 use Rattle.record_rows.proofs.observing.observe_fields.Goals as goal
@@ -14,7 +14,7 @@ returns-in_err-field-clause-refused c =
     let p = err_from_is_err_and c.from_residual.result c.from_residual.ensures.1 in
     let s = c.args.schema.now in
     let b = c.loop-field.invariant.0 in
-    rw (p.1, p.2) (c.in_err-field.ensures.refused s.delimiter.byte s.is_lenient s.columns.items c.args.text.now (map (λ (p : Step). p.field) b.steps) b.walked)
+    rw (p.1, p.2) (c.in_err-field.ensures.refused s.delimiter.byte s.is_lenient s.columns.items c.args.text.now (map (λ (p : Step). p.field) b.steps) b.walked (begun_taken _ _ _ _ _ _ _ _ b))
 
 pub offset_bounds-statistics-field : goal.offset_bounds-statistics-field
 offset_bounds-statistics-field c =
@@ -41,7 +41,7 @@ returns-in_err-flag-clause-refused c =
     let fields = map (λ (p : Step). p.field) b.steps in
     let is : IsNext s.delimiter.byte s.columns.items c.args.text.now c.next_field.new.self fields c.in-Some.field =
     rw c.in-Some.is at (c.in_ok-field.ensures.next s.delimiter.byte s.columns.items c.args.text.now fields b.walked) in
-    rw (p.1, p.2) (word_refused s.delimiter.byte s.is_lenient s.columns.items c.args.text.now c.next_field.new.self fields c.in-Some.field c.in_err-flag.field-0.0 is c.in_err-flag.ensures.refused)
+    rw (p.1, p.2) (word_refused s.delimiter.byte s.is_lenient s.columns.items c.args.text.now c.next_field.new.self fields c.in-Some.field c.in_err-flag.field-0.0 is (begun_taken _ _ _ _ _ _ _ _ b) c.in_err-flag.ensures.refused)
 
 pub loop-field-preserved : goal.loop-field-preserved
 loop-field-preserved c =

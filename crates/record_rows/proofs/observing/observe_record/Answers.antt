@@ -8,8 +8,7 @@ pub returns-in_err-refused-clause-refused : goal.returns-in_err-refused-clause-r
 returns-in_err-refused-clause-refused c =
     let p = err_from_is_err_and c.from_residual.result c.from_residual.ensures.1 in
     rw (p.1, p.2) (refused_row c.args.schema.now.delimiter.byte c.args.schema.now.is_lenient c.args.schema.now.columns.items c.args.line.now c.row_start-start.result.now c.in_err-refused.field-0.0
-    (c.row_start-start.ensures.row (not_empty c.row_start-start.result.now c.is_empty.result c.is_empty.ensures c.if-is_empty.false) c.args.schema.now.delimiter.byte)
-    (c.row_start-start.ensures.whole (not_empty c.row_start-start.result.now c.is_empty.result c.is_empty.ensures c.if-is_empty.false) c.args.schema.now.delimiter.byte) c.in_err-refused.ensures.refused)
+    (c.row_start-start.ensures.row (not_empty c.row_start-start.result.now c.is_empty.result c.is_empty.ensures c.if-is_empty.false) c.args.schema.now.delimiter.byte) c.in_err-refused.ensures.refused)
 
 pub returns-clause-observed : goal.returns-clause-observed
 returns-clause-observed c =

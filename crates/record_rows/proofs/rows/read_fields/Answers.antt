@@ -4,7 +4,7 @@ use Rattle.std.proofs.lemmas.Result.{err_from_is_err_and}
 use Rattle.vortex_value.specs.declared.scalars.Scalar.{Scalar}
 use Rattle.record_rows.specs.Rows.{HasFields}
 use Rattle.record_rows.specs.Walks.{IsNext}
-use Rattle.record_rows.proofs.Reading.{ended, more_at, one_at_most}
+use Rattle.record_rows.proofs.Reading.{begun_taken, ended, more_at, one_at_most}
 use Rattle.record_rows.proofs.Walking.{word_refused}
 use Rattle.record_rows.proofs.rows.read_fields.Goals as goal
 
@@ -13,7 +13,7 @@ returns-in_err-field-clause-refused c =
     let p = err_from_is_err_and c.from_residual.result c.from_residual.ensures.1 in
     let s = c.args.schema.now in
     let b = c.loop-buffer.invariant.0 in
-    rw (p.1, p.2) (c.in_err-field.ensures.refused s.delimiter.byte s.is_lenient s.columns.items c.args.text.now b.fields b.walked)
+    rw (p.1, p.2) (c.in_err-field.ensures.refused s.delimiter.byte s.is_lenient s.columns.items c.args.text.now b.fields b.walked (begun_taken _ _ _ _ _ _ _ _ b))
 
 pub put_cell-requires : goal.put_cell-requires
 put_cell-requires c =
@@ -29,7 +29,7 @@ returns-in_err-flag-clause-refused c =
     let b = c.loop-buffer.invariant.0 in
     let is : IsNext s.delimiter.byte s.columns.items c.args.text.now c.next_field.new.self b.fields c.in-Some.field =
     rw c.in-Some.is at (c.in_ok-field.ensures.next s.delimiter.byte s.columns.items c.args.text.now b.fields b.walked) in
-    rw (p.1, p.2) (word_refused s.delimiter.byte s.is_lenient s.columns.items c.args.text.now c.next_field.new.self b.fields c.in-Some.field c.in_err-flag.field-0.0 is c.in_err-flag.ensures.refused)
+    rw (p.1, p.2) (word_refused s.delimiter.byte s.is_lenient s.columns.items c.args.text.now c.next_field.new.self b.fields c.in-Some.field c.in_err-flag.field-0.0 is (begun_taken _ _ _ _ _ _ _ _ b) c.in_err-flag.ensures.refused)
 
 pub loop-buffer-preserved : goal.loop-buffer-preserved
 loop-buffer-preserved c =

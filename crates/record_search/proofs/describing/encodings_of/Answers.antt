@@ -2,11 +2,11 @@
 use Rattle.std.proofs.Common.{◌≡◌, ◌<◌, ◌∙◌, ◌∷◌, [], List, ap, append-nil, append_assoc, arith, length, length-append, rules, subst, sym}
 use Rattle.std.specs.Vec.Iter.{into_iter_items}
 use Rattle.vortex_statistics.specs.declared.column_statistics.ColumnStatistics.{ColumnStatistics}
-use Rattle.record_search.proofs.ObserveLaws.{AreFormsOf, all_encodings, encoding_more, no_encodings, nothing_left}
+use Rattle.record_search.proofs.ObserveLaws.{columns_done, encoding_more, no_encodings, nothing_left}
 use Rattle.record_search.proofs.describing.encodings_of.Goals as goal
 
 pub loop-column-init : goal.loop-column-init
-loop-column-init c = (search rules, no_encodings _ _ (search rules), search rules)
+loop-column-init c = (search rules, no_encodings c.args.describer.now.schema.now.columns.items c.args.describer.now.bound_length _ (search rules), search rules)
 
 pub loop-column-preserved : goal.loop-column-preserved
 loop-column-preserved c =
@@ -24,11 +24,14 @@ loop-column-preserved c =
           omega arith,
     )
 
-pub returns : goal.returns
-returns c =
+pub returns-clause-right : goal.returns-clause-right
+returns-clause-right c = λ rows are all.
     let at = c.loop-column in
-    let s = c.args.describer.now.schema.now in
     let none = c.in-None.ensures.steps in
-    let empty : into_iter_items at.column-iterator ≡ [] = nothing_left _ (sym at.invariant.2 ∙ none.0) in
-    let all = sym (append-nil at.yielded) ∙ rw empty at at.invariant.0 ∙ c.into_iter-column-iterator.ensures.into_iter_gives.0 in
-    all_encodings s.columns.items c.args.statistics.items at.output.items c.requires (subst (λ (l : List ColumnStatistics). AreFormsOf s.columns.items l at.output.items) all at.invariant.1)
+    (columns_done c.args.describer.now.schema.now.columns.items c.args.describer.now.bound_length at.yielded (into_iter_items at.column-iterator) c.args.statistics.items at.output.items (nothing_left _ (sym at.invariant.2 ∙ none.0)) (at.invariant.0 ∙ c.into_iter-column-iterator.ensures.into_iter_gives.0) c.requires at.invariant.1 rows are all).0
+
+pub returns-clause-full : goal.returns-clause-full
+returns-clause-full c = λ rows are all.
+    let at = c.loop-column in
+    let none = c.in-None.ensures.steps in
+    (columns_done c.args.describer.now.schema.now.columns.items c.args.describer.now.bound_length at.yielded (into_iter_items at.column-iterator) c.args.statistics.items at.output.items (nothing_left _ (sym at.invariant.2 ∙ none.0)) (at.invariant.0 ∙ c.into_iter-column-iterator.ensures.into_iter_gives.0) c.requires at.invariant.1 rows are all).1

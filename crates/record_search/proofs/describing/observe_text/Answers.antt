@@ -1,14 +1,15 @@
 -- A record more, and one that is refused.
-use Rattle.std.proofs.Common.{◌∙◌, ◌+◌, ℕ, arith, ap, length, rules}
+use Rattle.std.proofs.Common.{◌∙◌, ◌+◌, ℕ, arith, ap, length, refl, rules}
 use Rattle.std.proofs.lemmas.Result.{err_from_is_err_and}
 use Rattle.zone_index.proofs.Refusing.{reached_more, reached_none, refused_in_text}
+use Rattle.zone_index.proofs.Sifting.{first_in_records, sifted_all, sifted_more, sifted_none}
 use Rattle.record_search.specs.Refused.{RefusesRecord}
-use Rattle.record_search.specs.Searched.{row_under}
-use Rattle.record_search.proofs.ObserveLaws.{at_most_one, no_bytes, seen_all, seen_more, seen_none}
+use Rattle.record_search.specs.Searched.{is_refused, nulls_under, row_under}
+use Rattle.record_search.proofs.ObserveLaws.{at_most_one, no_bytes, nulls_all, nulls_more, nulls_none, seen_all, seen_more, seen_none}
 use Rattle.record_search.proofs.describing.observe_text.Goals as goal
 
 pub loop-rest-init : goal.loop-rest-init
-loop-rest-init c = (search rules, seen_none _ _ _ _ c.requires.fresh, search rules, search rules, search rules, reached_none _ _)
+loop-rest-init c = (search rules, seen_none _ _ _ _ c.requires.fresh, search rules, search rules, search rules, reached_none _ _, nulls_none _ _ _, sifted_none _ _ _)
 
 pub loop-rest-preserved : goal.loop-rest-preserved
 loop-rest-preserved c =
@@ -22,6 +23,8 @@ loop-rest-preserved c =
       omega (arith, c.loop-rest.invariant.3, one),
       c.in_ok-has_row.ensures.length ∙ c.loop-rest.invariant.4,
       reached_more s.delimiter.byte c.args.text.now c.loop-rest.rest.now c.cut_record.result.0.now c.cut_record.result.1.now c.loop-rest.invariant.5 cut c.cut_record.ensures.parts,
+      nulls_more (nulls_under s) s.delimiter.byte c.args.text.now c.loop-rest.rest.now c.cut_record.result.0.now c.cut_record.result.1.now c.loop-rest.nulls c.in_ok-has_row.more c.saturating_add-nulls.result cut c.loop-rest.invariant.6 c.in_ok-has_row.ensures.nulls c.saturating_add-nulls.ensures,
+      sifted_more (is_refused s) s.delimiter.byte s.delimiter.byte c.args.text.now c.loop-rest.rest.now c.cut_record.result.0.now c.cut_record.result.1.now c.loop-rest.invariant.7 refl cut c.cut_record.ensures.parts c.in_ok-has_row.ensures.passed,
     )
 
 pub returns-in_err-has_row-clause-refused : goal.returns-in_err-has_row-clause-refused
@@ -35,7 +38,23 @@ returns-clause-rows c =
     let s = c.args.schema.now in
     (seen_all (row_under s) s.delimiter.byte c.args.text.now c.loop-rest.rest.now c.loop-rest.rows c.loop-rest.statistics (no_bytes c.loop-rest.rest.now (search rules)) c.loop-rest.invariant.1).0
 
+pub returns-clause-nulls : goal.returns-clause-nulls
+returns-clause-nulls c =
+    let s = c.args.schema.now in
+    nulls_all (nulls_under s) s.delimiter.byte c.args.text.now c.loop-rest.rest.now c.loop-rest.nulls (no_bytes c.loop-rest.rest.now (search rules)) c.loop-rest.invariant.6
+
 pub returns-clause-complete : goal.returns-clause-complete
 returns-clause-complete c =
     let s = c.args.schema.now in
     (seen_all (row_under s) s.delimiter.byte c.args.text.now c.loop-rest.rest.now c.loop-rest.rows c.loop-rest.statistics (no_bytes c.loop-rest.rest.now (search rules)) c.loop-rest.invariant.1).1
+
+pub returns-clause-passed : goal.returns-clause-passed
+returns-clause-passed c =
+    let s = c.args.schema.now in
+    sifted_all (is_refused s) s.delimiter.byte c.args.text.now c.loop-rest.rest.now c.loop-rest.invariant.7 (no_bytes c.loop-rest.rest.now (search rules))
+
+pub returns-in_err-has_row-clause-first : goal.returns-in_err-has_row-clause-first
+returns-in_err-has_row-clause-first c =
+    let s = c.args.schema.now in
+    let p = err_from_is_err_and c.from_residual.result c.from_residual.ensures.1 in
+    rw (p.1, p.2) (first_in_records (is_refused s) (RefusesRecord s) s.delimiter.byte _ c.args.text.now c.loop-rest.rest.now c.cut_record.result.0.now c.cut_record.result.1.now c.in_err-has_row.field-0.0 c.loop-rest.invariant.7 c.cut_record.ensures.records (search rules) c.in_err-has_row.ensures.refused c.in_err-has_row.ensures.right)

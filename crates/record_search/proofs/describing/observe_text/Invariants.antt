@@ -2,8 +2,9 @@
 use Rattle.std.proofs.Common.{◌≡◌, ◌≤◌, ◌+◌, length}
 use Rattle.csv_records.specs.Records.{records_of}
 use Rattle.zone_index.proofs.Refusing.{IsReached}
-use Rattle.record_search.specs.Searched.{row_under}
-use Rattle.record_search.proofs.ObserveLaws.{Seen}
+use Rattle.zone_index.proofs.Sifting.{Sifted}
+use Rattle.record_search.specs.Searched.{is_refused, nulls_under, row_under}
+use Rattle.record_search.proofs.ObserveLaws.{NullsSeen, Seen}
 use Rattle.record_search.proofs.describing.observe_text.Given as goal
 
 abbrev pub invariant-loop-rest : goal.invariant-loop-rest
@@ -14,6 +15,8 @@ invariant-loop-rest l =
     × (l.rows ≤ l.records)
     × (length l.statistics ≡ length l.initial.statistics)
     × IsReached l.schema.delimiter.byte l.text l.rest
+    × NullsSeen (nulls_under l.schema) l.schema.delimiter.byte l.text l.rest l.nulls
+    × Sifted (is_refused l.schema) l.schema.delimiter.byte l.text l.rest
 
 abbrev pub decreases-loop-rest : goal.decreases-loop-rest
 decreases-loop-rest l = length l.rest

@@ -1,6 +1,6 @@
 -- The row that is read is the one that is computed, and what is told of one that is refused.
 use Rattle.std.proofs.Common.{sym}
-use Rattle.record_search.proofs.RefusedLaws.{row_refused}
+use Rattle.record_search.proofs.RefusedLaws.{passed_none, passed_row, refused_right, row_refused}
 use Rattle.record_search.proofs.RowLaws.{row_is}
 use Rattle.record_search.proofs.schema.row_of_record.Goals as goal
 
@@ -11,3 +11,14 @@ returns-in-Ok-Some-clause-row c =
 
 pub returns-in-Err-clause-refused : goal.returns-in-Err-clause-refused
 returns-in-Err-clause-refused c = rw c.record_fault.ensures (row_refused c.args.schema.now c.args.place c.args.line.now c.in-Err.fault c.in-Err.ensures.refused)
+
+pub returns-in-Ok-Some-clause-passed : goal.returns-in-Ok-Some-clause-passed
+returns-in-Ok-Some-clause-passed c =
+    let s = c.args.schema.now in
+    passed_row s c.args.line.now _ (row_is s.delimiter.byte s.is_lenient s.columns.items c.args.line.now c.read_row.new.row.items c.in-Ok-Some.field-0-0 (rw c.in-Ok-Some.field-0-is at c.in-Ok-Some.ensures.row))
+
+pub returns-in-Ok-None-clause-passed : goal.returns-in-Ok-None-clause-passed
+returns-in-Ok-None-clause-passed c = passed_none c.args.schema.now c.args.line.now (rw c.in-Ok-None.field-0-is at c.in-Ok-None.ensures.row)
+
+pub returns-in-Err-clause-right : goal.returns-in-Err-clause-right
+returns-in-Err-clause-right c = rw c.record_fault.ensures (refused_right c.args.schema.now c.args.place c.args.line.now c.in-Err.fault c.in-Err.ensures.refused)

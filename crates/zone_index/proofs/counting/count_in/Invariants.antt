@@ -2,12 +2,14 @@
 use Rattle.std.proofs.Common.{◌≡◌, ◌≤◌, ◌+◌, length, count_by}
 use Rattle.csv_records.specs.Records.{records_of}
 use Rattle.zone_index.proofs.Refusing.{IsReached}
+use Rattle.zone_index.proofs.Sifting.{Sifted}
 use Rattle.zone_index.proofs.counting.count_in.Given as goal
 
 abbrev pub invariant-loop-rest : goal.invariant-loop-rest
 invariant-loop-rest g l =
     (l.hits + count_by (g.M.Matcher.matches l.matcher) (records_of (g.M.Records.delimiter l.matcher) l.rest) ≡ count_by (g.M.Matcher.matches l.matcher) (records_of (g.M.Records.delimiter l.matcher) l.text))
     × (l.hits + length l.rest ≤ length l.text)
+    × Sifted (g.M.Records.is_refused l.matcher) (g.M.Records.delimiter l.matcher) l.text l.rest
     × IsReached (g.M.Records.delimiter l.matcher) l.text l.rest
 
 abbrev pub decreases-loop-rest : goal.decreases-loop-rest

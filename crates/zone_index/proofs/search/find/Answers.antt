@@ -3,10 +3,11 @@ use Rattle.std.proofs.Common.{rules, arith, sym, ap, subst, ℕ, List, Option, t
 use Rattle.std.proofs.lemmas.Result.{err_from_is_err_and}
 use Rattle.std.specs.Io.KnownBytes.{Appends}
 use Rattle.zone_index.specs.Sinks.{written_in}
-use Rattle.zone_index.specs.Zones.{IsHeld, IsZoneOf, found_in, is_copied, is_copy, is_search, is_searched, is_skip, is_skipped}
+use Rattle.zone_index.specs.Zones.{IsHeld, IsZoneOf, found_in, is_copied, is_copy, is_search, is_searched, is_skip, is_skipped, zone_records}
 use Rattle.zone_index.proofs.Finding.{asks_zone, at_item, capped_all, capped_more, counted_more, counted_whole, cut_in_zone, far_in_zone}
 use Rattle.zone_index.proofs.Rests.{appends-kept}
 use Rattle.zone_index.proofs.Refusing.{refused_in_zone}
+use Rattle.zone_index.proofs.Sifting.{first_in_zones, zone_sifted, zones_sifted}
 use Rattle.zone_index.proofs.Sinking.{found_written, kept_written, number_more, written_more, written_whole}
 use Rattle.zone_index.proofs.search.find.Goals as goal
 
@@ -31,6 +32,8 @@ loop-zone-preserved g c =
       searched = counted_more (is_searched decides) zones i c.loop-zone.tally.searched c.add.new.self.searched item (is_search c.in_ok-way.way) (search rules) c.zone-item.is (ap is_search (sym c.in_ok-way.ensures.way)) before.searched c.add.ensures.searched;
       few = omega (arith, c.add.ensures.sum, before.few);
       asks = asks_zone decides zones i item _ (g.R.ReadAt.asked c.loop-zone.reader) _ (search rules) c.zone-item.is before.asks c.in_ok-way.ensures.asks;
+      sifted = λ was held right. zone_sifted (g.M.Records.is_refused c.args.matcher.now) (is_searched decides) (zone_records d was) zones i item (search rules) c.zone-item.is (before.sifted was held right)
+          (c.in_ok-way.ensures.passed was (subst (λ (known : Option (List ℕ)). IsHeld known was) (sym before.same) held) (at_item (IsZoneOf d has_row Describes was) zones i item (search rules) c.zone-item.is right).inside);
       found = λ was held right. capped_more d keep was zones i c.loop-zone.tally.found c.in_ok-way.found c.add.new.self.found item (search rules) c.zone-item.is (before.found was held right)
           (c.in_ok-way.ensures.found was (subst (λ (known : Option (List ℕ)). IsHeld known was) (sym before.same) held) (at_item (IsZoneOf d has_row Describes was) zones i item (search rules) c.zone-item.is right)) c.add.ensures.found;
     }
@@ -55,6 +58,7 @@ returns-in_err-way-clause-answer g c =
       written = tt;
       plain = tt;
       found = tt;
+      passed = tt;
       skipped = tt;
       copied = tt;
       searched = tt;
@@ -64,6 +68,7 @@ returns-in_err-way-clause-answer g c =
         cut = λ short. cut_in_zone d has_row Describes _ (g.R.ReadAt.bytes c.loop-zone.reader) zones i item (search rules) c.zone-item.is before.same (c.in_err-way.ensures.cut short);
         far = λ past was start index. far_in_zone d has_row Describes zones i item was start (search rules) c.zone-item.is (c.in_err-way.ensures.far past) index;
         refused = refused_in_zone (g.M.Records.Refuses c.args.matcher.now) d has_row Describes _ _ zones i item c.in_err-way.field-0.0 (search rules) c.zone-item.is before.same c.in_err-way.ensures.refused;
+        first = first_in_zones (g.M.Records.is_refused c.args.matcher.now) (is_searched (g.M.Matcher.decides c.args.matcher.now)) d has_row Describes _ _ zones i item c.in_err-way.field-0.0 (search rules) c.zone-item.is before.same before.sifted c.in_err-way.ensures.first;
       };
     })
 
@@ -82,6 +87,7 @@ returns-clause-answer g c =
       written = λ was start held index. appends-kept _ (g.S.Sink.contents c.loop-zone.sink) _ _ (written_whole _ _ f keep d has_row Describes start c.args.first zones was i (search rules) index (before.written was held index.right)) c.in_ok-flush.ensures.kept;
       plain = λ plain was start held index. kept_written _ _ f keep c.args.first _ plain (appends-kept _ (g.S.Sink.contents c.loop-zone.sink) _ _ (written_whole _ _ f keep d has_row Describes start c.args.first zones was i (search rules) index (before.written was held index.right)) c.in_ok-flush.ensures.kept);
       found = λ was start held index. capped_all d has_row Describes keep start zones was i c.loop-zone.tally.found (search rules) index (before.found was held index.right);
+      passed = λ was start held index. zones_sifted (g.M.Records.is_refused c.args.matcher.now) (is_searched decides) (zone_records d was) zones i (search rules) (before.sifted was held index.right);
       skipped = counted_whole (is_skipped decides) zones i c.loop-zone.tally.skipped (search rules) before.skipped;
       copied = counted_whole (is_copied decides) zones i c.loop-zone.tally.copied (search rules) before.copied;
       searched = counted_whole (is_searched decides) zones i c.loop-zone.tally.searched (search rules) before.searched;

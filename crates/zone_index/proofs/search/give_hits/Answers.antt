@@ -5,6 +5,7 @@ use Rattle.std.proofs.lemmas.List.{nil_from_length}
 use Rattle.csv_records.specs.Records.{records_of}
 use Rattle.zone_index.specs.Sinks.{written_of}
 use Rattle.zone_index.proofs.Refusing.{reached_more_at}
+use Rattle.zone_index.proofs.Sifting.{sifted_more}
 use Rattle.zone_index.proofs.Sinking.{given_more, number_passed}
 use Rattle.zone_index.proofs.search.give_hits.Goals as goal
 
@@ -24,6 +25,7 @@ loop-rest-preserved g c =
       next = number_passed d e rest line after c.loop-rest.number c.saturating_add-number.result (c.args.start.number + length (records_of d c.args.text.now)) by cut c.saturating_add-number.ensures c.loop-rest.invariant.next;
       fits = omega (arith, c.saturating_add-number.ensures);
       few = first_of (search rules, grind (arith, common_steps));
+      sifted = sifted_more (g.M.Records.is_refused c.args.matcher.now) d e c.args.text.now rest line after c.loop-rest.invariant.sifted by cut c.cut_record.ensures.parts c.in_ok-hit.ensures.passed;
       reached = reached_more_at d e c.args.text.now rest line after c.loop-rest.invariant.reached by cut c.cut_record.ensures.parts;
     }
 

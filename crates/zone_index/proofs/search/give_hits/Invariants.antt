@@ -3,6 +3,7 @@ use Rattle.std.proofs.Common.{◌≡◌, ◌<◌, ◌≤◌, ◌+◌, ◌++◌, 
 use Rattle.csv_records.specs.Records.{records_of}
 use Rattle.zone_index.specs.Sinks.{told, written_of}
 use Rattle.zone_index.proofs.Refusing.{IsReached}
+use Rattle.zone_index.proofs.Sifting.{Sifted}
 use Rattle.zone_index.proofs.search.give_hits.Given as goal
 
 abbrev pub invariant-loop-rest : goal.invariant-loop-rest
@@ -14,6 +15,7 @@ invariant-loop-rest g l = record {
   next : told (l.number + length (records_of (g.M.Records.delimiter l.matcher) l.rest)) ≡ told (l.start.number + length (records_of (g.M.Records.delimiter l.matcher) l.text));
   fits : l.number < 2 ^ 64;
   few : l.hits + length l.rest ≤ length l.text;
+  sifted : Sifted (g.M.Records.is_refused l.matcher) (g.M.Records.delimiter l.matcher) l.text l.rest;
   reached : IsReached (g.M.Records.delimiter l.matcher) l.text l.rest;
 }
 

@@ -5,12 +5,14 @@ use Rattle.std.proofs.lemmas.List.{nil_from_length}
 use Rattle.std.proofs.lemmas.Result.{err_from_is_err_and}
 use Rattle.zone_index.proofs.Refusing.{passed_far, passed_more, passed_none, refused_in_piece}
 use Rattle.zone_index.proofs.Rests.{counted_all, counted_more, counted_none}
+use Rattle.zone_index.proofs.Sifting.{at_end, first_in_piece, rest_all, rest_more, rest_none}
 use Rattle.zone_index.proofs.streaming.count_rest.Goals as goal
 
 pub loop-text-init : goal.loop-text-init
 loop-text-init g c = record {
   counted = λ bytes is. counted_none _ _ bytes _ is;
   behind = λ bytes is. passed_none _ bytes _ is;
+  sifted = λ bytes is. rest_none _ _ bytes _ is;
   few = search rules;
 }
 
@@ -33,6 +35,9 @@ loop-text-preserved g c = record {
   behind = λ bytes is.
       let s = c.loop-text.invariant.behind bytes is in
       passed_more (g.M.Records.delimiter c.args.matcher.now) c.delimiter_byte-delimiter.result.byte bytes c.take_records.new.text.items _ (g.B.Read.remaining c.take_records.new.reader) c.loop-text.passed _ s c.delimiter_byte-delimiter.ensures (c.in_ok-take_records.ensures.taken s.rest s.is) (search rules);
+  sifted = λ bytes is.
+      let s = c.loop-text.invariant.sifted bytes is in
+      rest_more (g.M.Records.is_refused c.args.matcher.now) (g.M.Records.delimiter c.args.matcher.now) c.delimiter_byte-delimiter.result.byte bytes c.take_records.new.text.items c.deref.result.now _ (g.B.Read.remaining c.take_records.new.reader) c.loop-text.passed _ s c.delimiter_byte-delimiter.ensures (c.in_ok-take_records.ensures.taken s.rest s.is) (search rules) c.deref.ensures.value c.in_ok-hits.ensures.passed;
   few = omega (arith, c.loop-text.invariant.few, c.in_ok-hits.ensures.few, c.in-Some.ensures, c.deref.ensures.len, c.len.ensures);
 }
 
@@ -41,3 +46,19 @@ returns-in_err-hits-clause-refused g c =
     let p = err_from_is_err_and c.from_residual-in_err-hits.result c.from_residual-in_err-hits.ensures.1 in
     rw (p.1, p.2) (refused_in_piece (g.M.Records.Refuses c.args.matcher.now) (g.M.Records.delimiter c.args.matcher.now) c.delimiter_byte-delimiter.result.byte c.take_records.new.text.items c.deref.result.now _ _ (g.B.Read.remaining c.take_records.new.reader) c.args.start c.loop-text.passed _ c.in_err-hits.field-0.0
     c.loop-text.invariant.behind c.saturating_add.ensures c.delimiter_byte-delimiter.ensures c.in_ok-take_records.ensures.taken c.deref.ensures.value c.in_err-hits.ensures.refused)
+
+pub returns-in_err-hits-clause-first : goal.returns-in_err-hits-clause-first
+returns-in_err-hits-clause-first g c =
+    let p = err_from_is_err_and c.from_residual-in_err-hits.result c.from_residual-in_err-hits.ensures.1 in
+    rw (p.1, p.2) (first_in_piece (g.M.Records.is_refused c.args.matcher.now) (g.M.Records.delimiter c.args.matcher.now) c.delimiter_byte-delimiter.result.byte c.take_records.new.text.items c.deref.result.now _ _ (g.B.Read.remaining c.take_records.new.reader) c.args.start c.loop-text.passed _ c.in_err-hits.field-0.0
+    c.loop-text.invariant.sifted c.saturating_add.ensures c.delimiter_byte-delimiter.ensures c.in_ok-take_records.ensures.taken c.deref.ensures.value c.in_err-hits.ensures.first)
+
+pub returns-then-is_empty-clause-passed : goal.returns-then-is_empty-clause-passed
+returns-then-is_empty-clause-passed g c =
+    let none : c.take_records.new.text.items ≡ [] = first_of (search (rules, nil_from_length), grind (arith, common_steps, nil_from_length)) in
+    λ bytes is. let s = c.loop-text.invariant.sifted bytes is in rest_all _ _ bytes _ _ s (c.in_ok-take_records.ensures.ended s.rest s.is none)
+
+pub returns-then-is_empty-clause-ended : goal.returns-then-is_empty-clause-ended
+returns-then-is_empty-clause-ended g c =
+    let none : c.take_records.new.text.items ≡ [] = first_of (search (rules, nil_from_length), grind (arith, common_steps, nil_from_length)) in
+    λ bytes is. let s = c.loop-text.invariant.sifted bytes is in at_end _ s.rest _ _ (c.in_ok-take_records.ensures.taken s.rest s.is) (c.in_ok-take_records.ensures.ended s.rest s.is none)

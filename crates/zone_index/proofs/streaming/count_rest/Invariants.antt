@@ -1,6 +1,7 @@
 -- As many as match in what was taken so far.
 use Rattle.std.proofs.Common.{◌≡◌, ◌≤◌, ◌-◌, ◌^◌, List, Some, ℕ}
 use Rattle.zone_index.proofs.Refusing.{IsPassed}
+use Rattle.zone_index.proofs.Sifting.{SiftedRest}
 use Rattle.zone_index.proofs.Rests.{Counted}
 use Rattle.zone_index.proofs.streaming.count_rest.Given as goal
 
@@ -8,6 +9,7 @@ abbrev pub invariant-loop-text : goal.invariant-loop-text
 invariant-loop-text g l = record {
   counted : (bytes : List ℕ) → g.B.Read.remaining l.initial.reader ≡ Some bytes → Counted (g.M.Records.delimiter l.matcher) (g.M.Matcher.matches l.matcher) bytes (g.B.Read.remaining l.reader) l.total;
   behind : (bytes : List ℕ) → g.B.Read.remaining l.initial.reader ≡ Some bytes → IsPassed (g.M.Records.delimiter l.matcher) bytes (g.B.Read.remaining l.reader) l.passed;
+  sifted : (bytes : List ℕ) → g.B.Read.remaining l.initial.reader ≡ Some bytes → SiftedRest (g.M.Records.is_refused l.matcher) (g.M.Records.delimiter l.matcher) bytes (g.B.Read.remaining l.reader) l.passed;
   few : l.total ≤ l.passed;
 }
 

@@ -9,7 +9,7 @@ use Rattle.record_rows.proofs.fields.FieldWalk.next_field.Goals as goal
 pub returns-in_err-rest-clause-refused : goal.returns-in_err-rest-clause-refused
 returns-in_err-rest-clause-refused c =
     let p = err_from_is_err_and c.from_residual.result c.from_residual.ensures.1 in
-    rw (p.1, p.2) (λ d l columns bytes fields h. walk_ends d l columns bytes c.args.self.now fields c.in_err-rest.field-0.0 h c.in_err-rest.ensures.refused)
+    rw (p.1, p.2) (λ d l columns bytes fields h taken. walk_ends d l columns bytes c.args.self.now fields c.in_err-rest.field-0.0 h taken c.in_err-rest.ensures.refused)
 
 pub returns-clause-next : goal.returns-clause-next
 returns-clause-next c = λ d columns bytes fields h.

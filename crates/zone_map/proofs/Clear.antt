@@ -1,0 +1,162 @@
+-- Texts without a byte, and where they are cut at one.
+use Rattle.std.proofs.Common.{◌≡◌, ◌≢◌, ◌<◌, ◌≤◌, ◌^◌, ℕ, zero, suc, Bool, true, false, cond, eqb, List, [], ◌∷◌, ◌++◌, length, get_or, subst, arith, ◌∙◌, ap, sym, refl}
+use Rattle.std.specs.Prelude.{All, Err, None, Ok, Result, Some}
+use Rattle.std.specs.Char.{digit_value}
+use Rattle.std.specs.Fmt.{decimal}
+use Rattle.std.specs.Str.Parse.{AllDigits}
+use Rattle.std.proofs.lemmas.Fmt.{decimal_is_IsNumeral}
+use Rattle.std.proofs.lemmas.List.{append_assoc, length-append, map-append}
+use Rattle.std.proofs.lemmas.List.Elements.{All-append, All-cons, All-nil}
+use Rattle.zone_map.specs.Names.{IsName}
+use Rattle.zone_map.specs.declared.column_words.NamedColumn.{NamedColumn}
+use Rattle.zone_map.specs.Setups.{ColumnValue, FitNumbers, HaveNames, column_line, column_lines, column_value, column_values, kind_text, kind_word, mark_of, numbers_text}
+use Rattle.record_rows.specs.declared.schema.ColumnType.{ColumnType}
+use Rattle.record_rows.specs.declared.schema.Kind.{Kind}
+use Rattle.record_rows.specs.declared.schema.Kind.TheVariants as kinds
+use Rattle.vortex_dtype.specs.declared.nullability.Nullability.{Nullability}
+use Rattle.vortex_dtype.specs.declared.nullability.Nullability.TheVariants.{NonNullable, Nullable}
+use Rattle.vortex_dtype.specs.declared.ptype.PType.TheVariants as ptypes
+use Rattle.zone_map.specs.declared.setup.Numbers.{Numbers}
+
+-- no byte of a text is this one
+abbrev pub Lacks : ℕ → List ℕ → Type 0
+Lacks c xs = All (λ b. b ≢ c) xs
+
+-- digits lack a byte that is none
+pub digits_lack : (c : ℕ) → 10 ≤ digit_value c → (ds : List ℕ) → AllDigits 10 ds → Lacks c ds
+digits_lack c high [] all = All-nil (λ b. b ≢ c)
+digits_lack c high (d ∷ ds) all =
+    All-cons (λ b. b ≢ c) d ds
+    (λ e. let low : digit_value c < 10 = subst (λ (x : ℕ). digit_value x < 10) e all.0 in absurd (omega arith))
+    (digits_lack c high ds all.1)
+
+pub decimal_lacks : (c : ℕ) → 10 ≤ digit_value c → (n : ℕ) → n < 2 ^ 64 → Lacks c (decimal n)
+decimal_lacks c high n small = digits_lack c high (decimal n) ((decimal_is_IsNumeral n small).0.1)
+
+-- whether the byte is there
+abbrev pub has : ℕ → List ℕ → Bool
+has c [] = false
+has c (x ∷ xs) = cond (eqb x c) true (has c xs)
+
+pub lacks_from : (c : ℕ) (xs : List ℕ) → has c xs ≡ false → Lacks c xs
+lacks_from c [] e = All-nil (λ b. b ≢ c)
+lacks_from c (x ∷ xs) e = All-cons (λ b. b ≢ c) x xs (λ is. grind (arith, e, is)) (lacks_from c xs (grind (arith, e)))
+
+-- a kind has neither a blank nor a line feed
+pub kind_lacks_blank : (k : Kind) (n : Nullability) → has 32 (kind_word k ++ mark_of n) ≡ false
+kind_lacks_blank (kinds.Integer ptypes.I8) Nullable = refl
+kind_lacks_blank (kinds.Integer ptypes.I8) NonNullable = refl
+kind_lacks_blank (kinds.Integer ptypes.I16) Nullable = refl
+kind_lacks_blank (kinds.Integer ptypes.I16) NonNullable = refl
+kind_lacks_blank (kinds.Integer ptypes.I32) Nullable = refl
+kind_lacks_blank (kinds.Integer ptypes.I32) NonNullable = refl
+kind_lacks_blank (kinds.Integer ptypes.I64) Nullable = refl
+kind_lacks_blank (kinds.Integer ptypes.I64) NonNullable = refl
+kind_lacks_blank (kinds.Integer ptypes.U8) Nullable = refl
+kind_lacks_blank (kinds.Integer ptypes.U8) NonNullable = refl
+kind_lacks_blank (kinds.Integer ptypes.U16) Nullable = refl
+kind_lacks_blank (kinds.Integer ptypes.U16) NonNullable = refl
+kind_lacks_blank (kinds.Integer ptypes.U32) Nullable = refl
+kind_lacks_blank (kinds.Integer ptypes.U32) NonNullable = refl
+kind_lacks_blank (kinds.Integer ptypes.U64) Nullable = refl
+kind_lacks_blank (kinds.Integer ptypes.U64) NonNullable = refl
+kind_lacks_blank kinds.Utf8 Nullable = refl
+kind_lacks_blank kinds.Utf8 NonNullable = refl
+kind_lacks_blank kinds.Binary Nullable = refl
+kind_lacks_blank kinds.Binary NonNullable = refl
+
+pub kind_lacks_feed : (k : Kind) (n : Nullability) → has 10 (kind_word k ++ mark_of n) ≡ false
+kind_lacks_feed (kinds.Integer ptypes.I8) Nullable = refl
+kind_lacks_feed (kinds.Integer ptypes.I8) NonNullable = refl
+kind_lacks_feed (kinds.Integer ptypes.I16) Nullable = refl
+kind_lacks_feed (kinds.Integer ptypes.I16) NonNullable = refl
+kind_lacks_feed (kinds.Integer ptypes.I32) Nullable = refl
+kind_lacks_feed (kinds.Integer ptypes.I32) NonNullable = refl
+kind_lacks_feed (kinds.Integer ptypes.I64) Nullable = refl
+kind_lacks_feed (kinds.Integer ptypes.I64) NonNullable = refl
+kind_lacks_feed (kinds.Integer ptypes.U8) Nullable = refl
+kind_lacks_feed (kinds.Integer ptypes.U8) NonNullable = refl
+kind_lacks_feed (kinds.Integer ptypes.U16) Nullable = refl
+kind_lacks_feed (kinds.Integer ptypes.U16) NonNullable = refl
+kind_lacks_feed (kinds.Integer ptypes.U32) Nullable = refl
+kind_lacks_feed (kinds.Integer ptypes.U32) NonNullable = refl
+kind_lacks_feed (kinds.Integer ptypes.U64) Nullable = refl
+kind_lacks_feed (kinds.Integer ptypes.U64) NonNullable = refl
+kind_lacks_feed kinds.Utf8 Nullable = refl
+kind_lacks_feed kinds.Utf8 NonNullable = refl
+kind_lacks_feed kinds.Binary Nullable = refl
+kind_lacks_feed kinds.Binary NonNullable = refl
+
+-- the line of a column, without its line feed
+abbrev pub column_words : ColumnValue → List ℕ
+column_words c = kind_text c.column ++ 32 ∷ c.name
+
+pub words_lack_feed : (c : ColumnValue) → IsName c.name → Lacks 10 (column_words c)
+words_lack_feed c named =
+    All-append (λ b. b ≢ 10) (kind_text c.column) (32 ∷ c.name)
+    (lacks_from 10 (kind_text c.column) (kind_lacks_feed c.column.kind c.column.nullability))
+    (All-cons (λ b. b ≢ 10) 32 c.name (λ e. absurd (omega arith)) named.one_line)
+
+pub line_is : (c : ColumnValue) (rest : List ℕ) → column_line c ++ rest ≡ column_words c ++ 10 ∷ rest
+line_is c rest = simp append_assoc
+
+pub one_is_digit : (b : Bool) → cond b 1 0 < 2 ^ 64
+one_is_digit true = omega arith
+one_is_digit false = omega arith
+
+pub numbers_lack_feed : (n : Numbers) → FitNumbers n → Lacks 10 (numbers_text n)
+numbers_lack_feed n fit =
+    All-append (λ b. b ≢ 10) _ _ (decimal_lacks 10 (omega arith) n.delimiter (omega (arith, fit.delimiter)))
+    (All-cons (λ b. b ≢ 10) 32 _ (λ e. absurd (omega arith))
+    (All-append (λ b. b ≢ 10) _ _ (decimal_lacks 10 (omega arith) (cond n.is_lenient 1 0) (one_is_digit n.is_lenient))
+    (All-cons (λ b. b ≢ 10) 32 _ (λ e. absurd (omega arith))
+    (All-append (λ b. b ≢ 10) _ _ (decimal_lacks 10 (omega arith) n.bound_length fit.bound_length)
+    (All-cons (λ b. b ≢ 10) 32 _ (λ e. absurd (omega arith))
+    (decimal_lacks 10 (omega arith) n.zone_rows fit.zone_rows))))))
+
+pub ok_same : {E : Type 0} (a b : ℕ) (r : Result ℕ E) → r ≡ Ok a → r ≡ Ok b → a ≡ b
+ok_same a b r p q = cc
+
+pub err_is_not : {E : Type 0} (e : E) (b : ℕ) (r : Result ℕ E) → r ≡ Err e → r ≡ Ok b → ⊥
+err_is_not e b r p q = cc
+
+pub some_same : {A : Type 0} (a b : A) → Some a ≡ Some b → a ≡ b
+some_same a b e = cc
+
+pub none_is_not : {A : Type 0} (a : A) → None ≡ Some a → ⊥
+none_is_not a e = cc
+
+pub same_numbers : (a b : Numbers) → a.delimiter ≡ b.delimiter → a.is_lenient ≡ b.is_lenient → a.bound_length ≡ b.bound_length → a.zone_rows ≡ b.zone_rows → Some a ≡ Some b
+same_numbers a b d i l z =
+    ap (λ (n : Numbers). Some n) (
+    ap (λ (x : ℕ). record a { delimiter = x }) d
+    ∙ ap (λ (x : Bool). record b { is_lenient = x; bound_length = a.bound_length; zone_rows = a.zone_rows }) i
+    ∙ ap (λ (x : ℕ). record b { bound_length = x; zone_rows = a.zone_rows }) l
+    ∙ ap (λ (x : ℕ). record b { zone_rows = x }) z)
+
+pub same_column : (c : ColumnValue) (name : List ℕ) (column : ColumnType) → name ≡ c.name → column ≡ c.column → record { name = name; column = column } ≡ c
+same_column c name column n t = ap (λ (x : List ℕ). record { name = x; column = column }) n ∙ ap (λ (x : ColumnType). record c { column = x }) t
+
+-- what is left of lines begins with that of a column, or is nothing
+pub record BeginsWith (rest : List ℕ) (others : List ColumnValue) : Type 0 where
+  pub column : ColumnValue
+  pub more : List ColumnValue
+  pub others_are : others ≡ column ∷ more
+  pub named : IsName column.name
+  pub names : HaveNames more
+  pub is : rest ≡ column_words column ++ 10 ∷ column_lines more
+
+pub begins_with : (rest : List ℕ) (others : List ColumnValue) → HaveNames others → rest ≡ column_lines others → 0 < length rest → BeginsWith rest others
+begins_with rest [] names is full = absurd (omega (arith, ap length is))
+begins_with rest (c ∷ more) names is full = record { column = c; more = more; others_are = refl; named = names.0; names = names.1; is = is ∙ line_is c (column_lines more) }
+
+pub none_left : (others : List ColumnValue) → length (column_lines others) ≡ 0 → others ≡ []
+none_left [] e = refl
+none_left (c ∷ more) e =
+    let long : length (column_words c ++ 10 ∷ column_lines more) ≡ 0 = ap length (sym (line_is c (column_lines more))) ∙ e in
+    absurd (omega (arith, length-append (column_words c) (10 ∷ column_lines more)))
+
+pub one_column_more : (columns others more : List ColumnValue) (c : ColumnValue) (old : List NamedColumn) (x : NamedColumn) → columns ≡ column_values old ++ others → others ≡ c ∷ more → column_value x ≡ c → columns ≡ column_values (old ++ x ∷ []) ++ more
+one_column_more columns others more c old x are is same =
+    are ∙ ap (λ (o : List ColumnValue). column_values old ++ o) (is ∙ ap (λ (y : ColumnValue). y ∷ more) (sym same))
+    ∙ sym (append_assoc (column_values old) (column_value x ∷ []) more) ∙ ap (λ (l : List ColumnValue). l ++ more) (sym (map-append column_value old (x ∷ [])))

@@ -1,0 +1,45 @@
+-- Each line is that of the next column.
+use Rattle.std.proofs.Common.{◌≡◌, ◌∙◌, ◌++◌, List, ℕ, ap, sym, subst, rules, arith, length, None, Some}
+use Rattle.std.proofs.lemmas.List.{append-nil}
+use Rattle.std.proofs.lemmas.Str.Pattern.{split_after}
+use Rattle.zone_map.specs.Setups.{ColumnValue, column_lines, column_values}
+use Rattle.zone_map.specs.declared.column_words.NamedColumn.{NamedColumn}
+use Rattle.zone_map.proofs.Clear.{BeginsWith, begins_with, column_words, none_left, one_column_more, same_column, words_lack_feed}
+use Rattle.zone_map.proofs.setup.columns_of_lines.Goals as goal
+
+pub returns-in_default : goal.returns-in_default
+returns-in_default c = λ columns names is.
+    let so_far = c.loop-rest.invariant.0 columns names is in
+    let head : BeginsWith c.loop-rest.rest.now so_far.0 = begins_with c.loop-rest.rest.now so_far.0 so_far.1 so_far.2 (search rules) in
+    split_after 10 c.loop-rest.rest.now (column_words head.column) (column_lines head.more) None c.in_default.ensures.cases (omega arith) head.is (λ i h. words_lack_feed head.column head.named i 0 h)
+
+pub returns-in_default-column_of_line : goal.returns-in_default-column_of_line
+returns-in_default-column_of_line c = λ columns names is.
+    let so_far = c.loop-rest.invariant.0 columns names is in
+    let head : BeginsWith c.loop-rest.rest.now so_far.0 = begins_with c.loop-rest.rest.now so_far.0 so_far.1 so_far.2 (search rules) in
+    let parts = split_after 10 c.loop-rest.rest.now (column_words head.column) (column_lines head.more) (Some (c.in-Some.line, c.in-Some.after)) c.in-Some.ensures.cases (omega arith) head.is (λ i h. words_lack_feed head.column head.named i 0 h) in
+    c.in_default-column_of_line.ensures head.column head.named parts.0
+
+pub loop-rest-preserved : goal.loop-rest-preserved
+loop-rest-preserved c = (
+  λ columns names is.
+      let so_far = c.loop-rest.invariant.0 columns names is in
+      let head : BeginsWith c.loop-rest.rest.now so_far.0 = begins_with c.loop-rest.rest.now so_far.0 so_far.1 so_far.2 (search rules) in
+      let parts = split_after 10 c.loop-rest.rest.now (column_words head.column) (column_lines head.more) (Some (c.in-Some.line, c.in-Some.after)) c.in-Some.ensures.cases (omega arith) head.is (λ i h. words_lack_feed head.column head.named i 0 h) in
+      let found = c.in-Some-column_of_line.ensures head.column head.named parts.0 in (
+        head.more,
+        head.names,
+        parts.1,
+        subst (λ (l : List NamedColumn). columns ≡ column_values l ++ head.more) (sym c.in_ok-push.ensures.items)
+            (one_column_more columns so_far.0 head.more head.column c.loop-rest.columns.items _ so_far.3 head.others_are
+            (same_column head.column _ _ (c.in_ok-name.ensures.ok ∙ found.1) found.0)),
+      ),
+  search rules,
+)
+
+pub returns : goal.returns
+returns c = λ columns names is.
+    let so_far = c.loop-rest.invariant.0 columns names is in
+    let short : length c.loop-rest.rest.now ≡ 0 = search rules in
+    let none = none_left so_far.0 (ap length (sym so_far.2) ∙ short) in
+    sym (so_far.3 ∙ ap (λ (o : List ColumnValue). column_values c.loop-rest.columns.items ++ o) none ∙ append-nil _)

@@ -1,0 +1,82 @@
+-- How a file is read, as a text.
+use Rattle.std.specs.Prelude.{◌≡◌, ◌<◌, ◌^◌, ◌++◌, ◌∷◌, ℕ, List, [], Bool, codes, map, string_bytes, if◌then◌else◌}
+use Rattle.std.specs.List.{AllByRecursion, flat_map}
+use Rattle.std.specs.Fmt.{decimal}
+use Rattle.zone_map.specs.Names.{IsName}
+use Rattle.record_rows.specs.declared.schema.ColumnType.{ColumnType}
+use Rattle.record_rows.specs.declared.schema.Kind.{Kind}
+use Rattle.record_rows.specs.declared.schema.Kind.TheVariants as kinds
+use Rattle.vortex_dtype.specs.declared.nullability.Nullability.{Nullability}
+use Rattle.vortex_dtype.specs.declared.nullability.Nullability.TheVariants.{NonNullable, Nullable}
+use Rattle.vortex_dtype.specs.declared.ptype.PType.TheVariants as ptypes
+use Rattle.zone_map.specs.declared.column_words.NamedColumn.{NamedColumn}
+use Rattle.zone_map.specs.declared.setup.Numbers.{Numbers}
+use Rattle.zone_map.specs.declared.setup.Setup.{Setup}
+
+-- a column and its name, without where that lies in memory
+pub record ColumnValue : Type 0 where
+  pub name : List ℕ
+  pub column : ColumnType
+
+-- a setup without where it lies in memory
+pub record SetupValue : Type 0 where
+  pub numbers : Numbers
+  pub columns : List ColumnValue
+
+abbrev pub column_value : NamedColumn → ColumnValue
+column_value named = record { name = string_bytes named.name; column = named.column }
+
+abbrev pub column_values : List NamedColumn → List ColumnValue
+column_values columns = map column_value columns
+
+abbrev pub setup_value : Setup → SetupValue
+setup_value setup = record { numbers = setup.numbers; columns = column_values setup.columns.items }
+
+-- the word for a kind
+abbrev pub kind_word : Kind → List ℕ
+kind_word (kinds.Integer ptypes.I8) = codes "i8"
+kind_word (kinds.Integer ptypes.I16) = codes "i16"
+kind_word (kinds.Integer ptypes.I32) = codes "i32"
+kind_word (kinds.Integer ptypes.I64) = codes "i64"
+kind_word (kinds.Integer ptypes.U8) = codes "u8"
+kind_word (kinds.Integer ptypes.U16) = codes "u16"
+kind_word (kinds.Integer ptypes.U32) = codes "u32"
+kind_word (kinds.Integer ptypes.U64) = codes "u64"
+kind_word kinds.Utf8 = codes "utf8"
+kind_word kinds.Binary = codes "binary"
+
+-- a question mark if the column takes nulls
+abbrev pub mark_of : Nullability → List ℕ
+mark_of Nullable = codes "?"
+mark_of NonNullable = []
+
+abbrev pub kind_text : ColumnType → List ℕ
+kind_text column = kind_word column.kind ++ mark_of column.nullability
+
+-- four numbers with a blank between two
+abbrev pub numbers_text : Numbers → List ℕ
+numbers_text n = decimal n.delimiter ++ 32 ∷ (decimal (if n.is_lenient then 1 else 0) ++ 32 ∷ (decimal n.bound_length ++ 32 ∷ decimal n.zone_rows))
+
+-- a kind and a name, with a blank between them, and a line feed
+abbrev pub column_line : ColumnValue → List ℕ
+column_line c = kind_text c.column ++ 32 ∷ (c.name ++ 10 ∷ [])
+
+abbrev pub column_lines : List ColumnValue → List ℕ
+column_lines columns = flat_map column_line columns
+
+abbrev pub setup_text : SetupValue → List ℕ
+setup_text s = numbers_text s.numbers ++ 10 ∷ column_lines s.columns
+
+-- the numbers are those of their types
+pub record FitNumbers (n : Numbers) : Type 0 where
+  pub delimiter : n.delimiter < 2 ^ 8
+  pub bound_length : n.bound_length < 2 ^ 64
+  pub zone_rows : n.zone_rows < 2 ^ 64
+
+abbrev pub HaveNames : List ColumnValue → Type 0
+HaveNames columns = AllByRecursion (λ c. IsName c.name) columns
+
+-- a setup whose text is read back: each column has a name
+pub record IsSetup (s : SetupValue) : Type 0 where
+  pub numbers : FitNumbers s.numbers
+  pub names : HaveNames s.columns
