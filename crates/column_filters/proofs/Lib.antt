@@ -1,5 +1,5 @@
 mod ColumnSteps
+mod Covering
 mod MaskSteps
-mod OpenPieces
 mod RowSteps
 mod ZoneSteps

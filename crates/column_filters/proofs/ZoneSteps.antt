@@ -1,5 +1,5 @@
 -- Steps of reading the statistics of zones.
-use Rattle.std.proofs.Common.{◌≡◌, ◌≢◌, ℕ, suc, ◌+◌, ◌*◌, ◌<◌, ◌≤◌, ◌⊎◌, inl, inr, List, [], ◌∷◌, length, map, get_or, refl, sym, subst, ap, ◌∙◌, arith}
+use Rattle.std.proofs.Common.{◌≡◌, ℕ, suc, ◌+◌, ◌*◌, ◌<◌, ◌≤◌, ◌⊎◌, inl, inr, List, length, map, get_or, refl, sym, subst, ap, ◌∙◌, arith}
 use Rattle.std.specs.Prelude.{Err, IfErr, IsErr, IsErrAnd, Ok, Result}
 use Rattle.std.proofs.Math.ListN.{set}
 use Rattle.std.proofs.Math.Nat.{mul-le-mul_right, suc-mul}
@@ -8,8 +8,7 @@ use Rattle.std.proofs.lemmas.List.{get_or-set_other, get_or-set_same, length-map
 use Rattle.vortex_dtype.specs.TypeOf.{type_of}
 use Rattle.vortex_dtype.specs.TypeTree.{TypeTree, null_type}
 use Rattle.vortex_dtype.specs.declared.types.DType.{DType}
-use Rattle.statistics_bytes.specs.Encoding.{AreOf, IsEncodingOf, encoding}
-use Rattle.statistics_bytes.specs.EncodingAnswers.{HasValues, IsFirstWrong, SaysBound}
+use Rattle.statistics_bytes.specs.Pieces.{IsBadPiece, Says, nothing_known}
 use Rattle.vortex_statistics.specs.Statistics.{Known, known}
 use Rattle.vortex_statistics.specs.declared.column_statistics.ColumnStatistics.{ColumnStatistics}
 use Rattle.vortex_statistics.specs.declared.error.StatisticsError.{StatisticsError}
@@ -17,74 +16,26 @@ use Rattle.vortex_statistics.specs.declared.error.StatisticsError.TheVariants as
 use Rattle.vortex_filter.specs.Formula.{Formula}
 use Rattle.filter_pruning.specs.Outcomes.{outcomes}
 use Rattle.column_filters.proofs.ColumnSteps.{typed_at}
-use Rattle.column_filters.specs.Zones.{AreEnough, AreOutcomes, AreSaid, AreSaidBefore, IsBadPiece, IsOutcome, IsPiece, IsSaid, RefusesZone, RefusesZones, SayVariant, Says, fault_of_piece, open_statistics, outcomes_byte, piece_at}
+use Rattle.column_filters.specs.Zones.{AreEnough, AreOutcomes, AreSaid, AreSaidBefore, IsBadAt, IsOutcome, IsPiece, IsSaid, RefusesZone, RefusesZones, fault_of_piece, outcomes_byte, piece_at}
 use Rattle.column_filters.specs.declared.errors.ZoneError.{ZoneError}
 use Rattle.column_filters.specs.declared.errors.ZoneError.TheVariants.{BadBytes, BadOffsets, HasVariant, OutOfMemory, WrongLength}
 
 -- ---- one piece
 
--- an empty piece leaves all open
-pub said_open : (t : TypeTree) (bytes offsets part : List ℕ) (p : ℕ) (s : Known) → IsPiece bytes offsets p → part ≡ piece_at bytes offsets p → length part ≡ 0 → s ≡ open_statistics → IsSaid t bytes offsets p s
-said_open t bytes offsets [] p s piece is none e = record { piece = piece; says = subst (λ xs. Says t xs s) is e }
-said_open t bytes offsets (b ∷ part) p s piece is none e = absurd (omega arith)
+pub said_at : (t : TypeTree) (bytes offsets part : List ℕ) (p : ℕ) (s : Known) → IsPiece bytes offsets p → part ≡ piece_at bytes offsets p → Says t part s → IsSaid t bytes offsets p s
+said_at t bytes offsets part p s piece is says = record { piece = piece; says = subst (λ xs. Says t xs s) is says }
 
-pub said_encoding : (t : TypeTree) (bytes offsets part : List ℕ) (p : ℕ) (s : Known) → IsPiece bytes offsets p → part ≡ piece_at bytes offsets p → 0 < length part → AreOf t s × (part ≡ encoding s) → IsSaid t bytes offsets p s
-said_encoding t bytes offsets [] p s piece is some w = absurd (omega arith)
-said_encoding t bytes offsets (b ∷ part) p s piece is some w = record { piece = piece; says = subst (λ xs. Says t xs s) is w }
-
-pub bad_offsets : (t : TypeTree) (bytes offsets : List ℕ) (p : ℕ) (r : Result Unit ZoneError) (e : ZoneError) → IsErr r × IsErrAnd r (λ f. f ≡ e) → (e ≡ BadOffsets p) × ¬ (IsPiece bytes offsets p) → IfErr r (IsBadPiece t bytes offsets p)
-bad_offsets t bytes offsets p (Ok x) e h w = tt
-bad_offsets t bytes offsets p (Err f) e h w = subst (IsBadPiece t bytes offsets p) (sym (h.1 ∙ w.0)) (refl, w.1)
-
-abbrev refused_as : StatisticsError → Result Unit StatisticsError
-refused_as e = Err e
-
--- an encoding that is refused
--- why bytes may be refused
-abbrev pub IsCause : List ℕ → StatisticsError → Type 0
-IsCause part e = (e ≡ refusals.HasVariant) ⊎ (((e ≡ refusals.OutOfMemory) × SaysBound part) ⊎ ((offset : ℕ) × (e ≡ refusals.BadBytes offset)))
-
-memory_bound : (part : List ℕ) → IsCause part refusals.OutOfMemory → SaysBound part
-memory_bound part (inl variant) = absurd cc
-memory_bound part (inr (inl memory)) = memory.1
-memory_bound part (inr (inr wrong)) = absurd (no_memory wrong.0 wrong.1)
-  where
-    no_memory : (offset : ℕ) → refusals.OutOfMemory ≡ refusals.BadBytes offset → ⊥
-    no_memory offset e = cc
-
-never_many : (part : List ℕ) → IsCause part refusals.TooManyRows → ⊥
-never_many part (inl variant) = cc
-never_many part (inr (inl memory)) = no_memory memory.0
-  where
-    no_memory : refusals.TooManyRows ≡ refusals.OutOfMemory → ⊥
-    no_memory e = cc
-never_many part (inr (inr wrong)) = not_bytes wrong.0 wrong.1
-  where
-    not_bytes : (offset : ℕ) → refusals.TooManyRows ≡ refusals.BadBytes offset → ⊥
-    not_bytes offset e = cc
-
-pub bad_encoding : (t : TypeTree) (bytes offsets part : List ℕ) (p : ℕ) (e : StatisticsError) → IsPiece bytes offsets p → part ≡ piece_at bytes offsets p → 0 < length part → IsCause part e
-    → (refused_as e ≡ refused_as refusals.HasVariant → SayVariant t part) → (SayVariant t part → refused_as e ≡ refused_as refusals.HasVariant)
-    → ((place : ℕ) → refused_as e ≡ refused_as (refusals.BadBytes place) → IsFirstWrong (IsEncodingOf t) (SaysBound part → HasValues t) part place) → IsBadPiece t bytes offsets p (fault_of_piece p e)
-bad_encoding t bytes offsets part p refusals.OutOfMemory piece is some cause variant other bad = (piece, subst SaysBound is (memory_bound part cause))
-bad_encoding t bytes offsets part p refusals.TooManyRows piece is some cause variant other bad = absurd (never_many part cause)
-bad_encoding t bytes offsets part p refusals.HasVariant piece is some cause variant other bad = (refl, piece, subst (SayVariant t) is (variant refl))
-bad_encoding t bytes offsets part p (refusals.BadBytes place) piece is some cause variant other bad =
-    let there : piece_at bytes offsets p ≢ [] = λ e. some_bytes (ap length (is ∙ e)) in
-    let none : ¬ (SayVariant t part) = λ said. no_variant (other said) in
-    (refl, piece, there, subst (λ xs. ¬ (SayVariant t xs)) is none, subst (λ xs. IsFirstWrong (IsEncodingOf t) (SaysBound xs → HasValues t) xs place) is (bad place refl))
-  where
-    some_bytes : length part ≡ 0 → ⊥
-    some_bytes none = omega arith
-
-    no_variant : refused_as (refusals.BadBytes place) ≡ refused_as refusals.HasVariant → ⊥
-    no_variant e = cc
+pub bad_at : (t : TypeTree) (bytes offsets part : List ℕ) (p : ℕ) (e : StatisticsError) → IsPiece bytes offsets p → part ≡ piece_at bytes offsets p → IsBadPiece t part e → IsBadAt t bytes offsets p (fault_of_piece p e)
+bad_at t bytes offsets part p refusals.OutOfMemory piece is bad = (piece, subst (λ xs. IsBadPiece t xs refusals.OutOfMemory) is bad)
+bad_at t bytes offsets part p refusals.TooManyRows piece is bad = absurd bad
+bad_at t bytes offsets part p refusals.HasVariant piece is bad = (refl, piece, subst (λ xs. IsBadPiece t xs refusals.HasVariant) is bad)
+bad_at t bytes offsets part p (refusals.BadBytes place) piece is bad = (refl, piece, subst (λ xs. IsBadPiece t xs (refusals.BadBytes place)) is bad)
 
 -- ---- the pieces of a zone
 
 -- each of the first columns has what its piece says
 abbrev pub AreSaidSoFar : List TypeTree → List ℕ → List ℕ → ℕ → ℕ → List Known → Type 0
-AreSaidSoFar types bytes offsets p count said = (k : ℕ) → k < count → IsSaid (get_or types k null_type) bytes offsets (p + k) (get_or said k open_statistics)
+AreSaidSoFar types bytes offsets p count said = (k : ℕ) → k < count → IsSaid (get_or types k null_type) bytes offsets (p + k) (get_or said k nothing_known)
 
 pub so_far-none : (types : List TypeTree) (bytes offsets : List ℕ) (p : ℕ) (said : List Known) → AreSaidSoFar types bytes offsets p 0 said
 so_far-none types bytes offsets p said k l = absurd (omega arith)
@@ -93,12 +44,12 @@ so_far-set : (types : List TypeTree) (bytes offsets : List ℕ) (p k : ℕ) (sai
     → AreSaidSoFar types bytes offsets p (k + 1) (set said k s)
 so_far-set types bytes offsets p k said s here all one j l = by_place (cases_lt j k)
   where
-    by_place : (j < k) ⊎ (k ≤ j) → IsSaid (get_or types j null_type) bytes offsets (p + j) (get_or (set said k s) j open_statistics)
-    by_place (inl before) = subst (λ x. IsSaid (get_or types j null_type) bytes offsets (p + j) x) (sym (get_or-set_other said k j s open_statistics (λ e. omega arith))) (all j before)
+    by_place : (j < k) ⊎ (k ≤ j) → IsSaid (get_or types j null_type) bytes offsets (p + j) (get_or (set said k s) j nothing_known)
+    by_place (inl before) = subst (λ x. IsSaid (get_or types j null_type) bytes offsets (p + j) x) (sym (get_or-set_other said k j s nothing_known (λ e. omega arith))) (all j before)
     by_place (inr after) =
         let at : k ≡ j = omega arith in
-        subst (λ i. IsSaid (get_or types i null_type) bytes offsets (p + i) (get_or (set said k s) i open_statistics)) at
-        (subst (λ x. IsSaid (get_or types k null_type) bytes offsets (p + k) x) (sym (get_or-set_same said k s open_statistics here)) one)
+        subst (λ i. IsSaid (get_or types i null_type) bytes offsets (p + i) (get_or (set said k s) i nothing_known)) at
+        (subst (λ x. IsSaid (get_or types k null_type) bytes offsets (p + k) x) (sym (get_or-set_same said k s nothing_known here)) one)
 
 pub so_far-more : (columns : List DType) (bytes offsets : List ℕ) (p k : ℕ) (d : DType) (read more : List ColumnStatistics) (s : ColumnStatistics) → k < length columns → length read ≡ length columns → d ≡ get_or columns k d
     → AreSaidSoFar (map type_of columns) bytes offsets p k (map known read) → IsSaid (type_of d) bytes offsets (p + k) (known s) → more ≡ set read k s → AreSaidSoFar (map type_of columns) bytes offsets p (k + 1) (map known more)
@@ -112,18 +63,18 @@ all_said columns bytes offsets p k read end long all = record { all = length-map
 
 -- each of the pieces says something
 pub said_before : (types : List TypeTree) (bytes offsets : List ℕ) (p k : ℕ) (said : List Known) → AreSaid types bytes offsets p k said → AreSaidBefore types bytes offsets p k
-said_before types bytes offsets p k said all j l = (get_or said j open_statistics, all.each j l)
+said_before types bytes offsets p k said all j l = (get_or said j nothing_known, all.each j l)
 
-zone_refused_by : (types : List TypeTree) (bytes offsets : List ℕ) (p k : ℕ) (said : List Known) (e : ZoneError) → k < length types → AreSaidSoFar types bytes offsets p k said → IsBadPiece (get_or types k null_type) bytes offsets (p + k) e
+zone_refused_by : (types : List TypeTree) (bytes offsets : List ℕ) (p k : ℕ) (said : List Known) (e : ZoneError) → k < length types → AreSaidSoFar types bytes offsets p k said → IsBadAt (get_or types k null_type) bytes offsets (p + k) e
     → RefusesZone types bytes offsets p e
-zone_refused_by types bytes offsets p k said e l all bad = record { column = k; within = l; before = λ j less. (get_or said j open_statistics, all j less); cause = bad }
+zone_refused_by types bytes offsets p k said e l all bad = record { column = k; within = l; before = λ j less. (get_or said j nothing_known, all j less); cause = bad }
 
 pub zone_refused : (columns : List DType) (bytes offsets : List ℕ) (p k : ℕ) (d : DType) (read : List ColumnStatistics) (r : Result Unit ZoneError) (e : ZoneError) → IsErr r × IsErrAnd r (λ f. f ≡ e) → k < length columns → d ≡ get_or columns k d
-    → AreSaidSoFar (map type_of columns) bytes offsets p k (map known read) → IsBadPiece (type_of d) bytes offsets (p + k) e → IfErr r (RefusesZone (map type_of columns) bytes offsets p)
+    → AreSaidSoFar (map type_of columns) bytes offsets p k (map known read) → IsBadAt (type_of d) bytes offsets (p + k) e → IfErr r (RefusesZone (map type_of columns) bytes offsets p)
 zone_refused columns bytes offsets p k d read (Ok u) e h l is all bad = tt
 zone_refused columns bytes offsets p k d read (Err f) e h l is all bad =
     subst (RefusesZone (map type_of columns) bytes offsets p) (sym h.1)
-    (zone_refused_by (map type_of columns) bytes offsets p k (map known read) e (omega (arith, length-map columns type_of)) all (subst (λ t. IsBadPiece t bytes offsets (p + k) e) (typed_at columns k d l is) bad))
+    (zone_refused_by (map type_of columns) bytes offsets p k (map known read) e (omega (arith, length-map columns type_of)) all (subst (λ t. IsBadAt t bytes offsets (p + k) e) (typed_at columns k d l is) bad))
 
 -- ---- zones
 

@@ -11,7 +11,8 @@ use Rattle.vortex_filter.specs.Formula.{Formula, comparison, null_test}
 use Rattle.filter_pruning.specs.Outcomes.{outcomes}
 use Rattle.vortex_filter.specs.declared.operator.CompareOperator.TheVariants.{Gte}
 use Rattle.column_filters.specs.Masks.{matching}
-use Rattle.column_filters.specs.Zones.{open_statistics, outcomes_byte, piece_at}
+use Rattle.statistics_bytes.specs.Pieces.{nothing_known}
+use Rattle.column_filters.specs.Zones.{outcomes_byte, piece_at}
 
 -- ---- masks
 
@@ -53,7 +54,7 @@ last_piece : piece_at (7 ∷ 8 ∷ 9 ∷ 10 ∷ 11 ∷ []) (0 ∷ 2 ∷ 2 ∷ 5 
 last_piece = refl
 
 -- what nothing is said of may be all three, and a test for a null is never unknown
-all_open : outcomes_byte (outcomes from_ten (open_statistics ∷ [])) ∷ outcomes_byte (outcomes (null_test 0) (open_statistics ∷ [])) ∷ [] ≡ 7 ∷ 5 ∷ []
+all_open : outcomes_byte (outcomes from_ten (nothing_known ∷ [])) ∷ outcomes_byte (outcomes (null_test 0) (nothing_known ∷ [])) ∷ [] ≡ 7 ∷ 5 ∷ []
 all_open = refl
 
 -- two values from 3 to n, and no null

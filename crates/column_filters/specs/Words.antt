@@ -9,6 +9,6 @@ pub use Rattle.column_cells.specs.Contents.{HasTexts, contents_of_rows}
 pub use Rattle.column_cells.specs.Types.{type_of_rows}
 pub use Rattle.column_filters.specs.Masks.{AreClear, IsMask, matching}
 pub use Rattle.column_filters.specs.Tables.{AreColumnsOf, AreReadFrom, HasRow, HaveRows, IsErrorAt, IsMaskError, IsReadFrom, IsTableError, cell_of_rows, cells_of_columns, cells_of_rows}
-pub use Rattle.column_filters.specs.Zones.{AreEnough, AreOutcomes, AreSaid, IsBadPiece, IsPiece, IsSaid, OutcomesCoverRows, RefusesZone, RefusesZones, fault_of_piece, open_statistics, outcomes_byte, piece_at}
+pub use Rattle.column_filters.specs.Zones.{AreEnough, AreOutcomes, AreSaid, IsBadAt, IsPiece, IsSaid, OutcomesCoverRows, RefusesZone, RefusesZones, fault_of_piece, outcomes_byte, piece_at}
 pub use Rattle.column_filters.specs.declared.errors.MaskError.TheVariants.{OutOfMemory}
 pub use Rattle.column_filters.specs.declared.errors.ZoneError.TheVariants.{BadOffsets}

@@ -1,10 +1,8 @@
 -- The statistics of zones in bytes, piece by piece, and what a filter can be by them.
-use Rattle.std.specs.Prelude.{◌≡◌, ◌≢◌, ℕ, ◌+◌, ◌-◌, ◌*◌, ◌^◌, ◌<◌, ◌≤◌, List, [], ◌∷◌, length, slice_index, slice_index_or, slice_range, Contains, None, if◌then◌else◌}
+use Rattle.std.specs.Prelude.{◌≡◌, ◌≢◌, ℕ, ◌+◌, ◌*◌, ◌<◌, ◌≤◌, List, [], length, slice_index, slice_index_or, slice_range, Contains, if◌then◌else◌}
 use Rattle.std.specs.Int.{bit_at}
 use Rattle.vortex_dtype.specs.TypeTree.{TypeTree, null_type}
-use Rattle.vortex_value.specs.TypesWithin.{HasNoVariant}
-use Rattle.statistics_bytes.specs.Encoding.{AreOf, IsEncodingOf, encoding}
-use Rattle.statistics_bytes.specs.EncodingAnswers.{HasValues, IsFirstWrong, SaysBound}
+use Rattle.statistics_bytes.specs.Pieces.{IsBadPiece, Says, nothing_known}
 use Rattle.vortex_cells.specs.Cells.{Cell}
 use Rattle.vortex_statistics.specs.Statistics.{AreRight, Known}
 use Rattle.vortex_statistics.specs.declared.error.StatisticsError.{StatisticsError}
@@ -28,16 +26,7 @@ IsPiece bytes offsets p = (slice_index offsets p ≤ slice_index offsets (p + 1)
 abbrev pub piece_at : List ℕ → List ℕ → ℕ → List ℕ
 piece_at bytes offsets p = slice_range bytes (slice_index offsets p) (slice_index offsets (p + 1))
 
--- statistics that leave all cells open
-abbrev pub open_statistics : Known
-open_statistics = record { row_count = 2 ^ 64 - 1; null_count = None; lower = None; upper = None }
-
--- what a piece says of a column of the type: nothing if it is empty
-abbrev pub Says : TypeTree → List ℕ → Known → Type 0
-Says t [] s = s ≡ open_statistics
-Says t (b ∷ bs) s = AreOf t s × (b ∷ bs ≡ encoding s)
-
--- a piece says these statistics of a column of the type
+-- piece p says these statistics of a column of the type
 pub record IsSaid (t : TypeTree) (bytes offsets : List ℕ) (p : ℕ) (s : Known) : Type 0 where
   pub piece : IsPiece bytes offsets p
   pub says : Says t (piece_at bytes offsets p) s
@@ -45,7 +34,7 @@ pub record IsSaid (t : TypeTree) (bytes offsets : List ℕ) (p : ℕ) (s : Known
 -- so many pieces, from p on, say these statistics of columns of the types
 pub record AreSaid (types : List TypeTree) (bytes offsets : List ℕ) (p count : ℕ) (said : List Known) : Type 0 where
   pub all : length said ≡ count
-  pub each : (k : ℕ) → k < count → IsSaid (slice_index_or types k null_type) bytes offsets (p + k) (slice_index_or said k open_statistics)
+  pub each : (k : ℕ) → k < count → IsSaid (slice_index_or types k null_type) bytes offsets (p + k) (slice_index_or said k nothing_known)
 
 -- ---- outcomes
 
@@ -77,19 +66,13 @@ fault_of_piece piece refusals.HasVariant = HasVariant piece
 fault_of_piece piece refusals.OutOfMemory = OutOfMemory
 fault_of_piece piece refusals.TooManyRows = OutOfMemory
 
--- the bytes say a bound of a type in which a variant stands
-abbrev pub SayVariant : TypeTree → List ℕ → Type 0
-SayVariant t part = (¬ (HasNoVariant t)) × SaysBound part
-
--- why a piece says nothing of a column of the type: if it says a bound of one with a variant, just that. Memory is asked for a
--- bound alone.
-abbrev pub IsBadPiece : TypeTree → List ℕ → List ℕ → ℕ → ZoneError → Type 0
-IsBadPiece t bytes offsets p OutOfMemory = IsPiece bytes offsets p × SaysBound (piece_at bytes offsets p)
-IsBadPiece t bytes offsets p WrongLength = ⊥
-IsBadPiece t bytes offsets p (BadOffsets piece) = (piece ≡ p) × ¬ (IsPiece bytes offsets p)
-IsBadPiece t bytes offsets p (BadBytes piece place) =
-    (piece ≡ p) × IsPiece bytes offsets p × (piece_at bytes offsets p ≢ []) × (¬ (SayVariant t (piece_at bytes offsets p))) × IsFirstWrong (IsEncodingOf t) (SaysBound (piece_at bytes offsets p) → HasValues t) (piece_at bytes offsets p) place
-IsBadPiece t bytes offsets p (HasVariant piece) = (piece ≡ p) × IsPiece bytes offsets p × SayVariant t (piece_at bytes offsets p)
+-- why piece p says nothing of a column of the type
+abbrev pub IsBadAt : TypeTree → List ℕ → List ℕ → ℕ → ZoneError → Type 0
+IsBadAt t bytes offsets p OutOfMemory = IsPiece bytes offsets p × IsBadPiece t (piece_at bytes offsets p) refusals.OutOfMemory
+IsBadAt t bytes offsets p WrongLength = ⊥
+IsBadAt t bytes offsets p (BadOffsets piece) = (piece ≡ p) × ¬ (IsPiece bytes offsets p)
+IsBadAt t bytes offsets p (BadBytes piece place) = (piece ≡ p) × IsPiece bytes offsets p × IsBadPiece t (piece_at bytes offsets p) (refusals.BadBytes place)
+IsBadAt t bytes offsets p (HasVariant piece) = (piece ≡ p) × IsPiece bytes offsets p × IsBadPiece t (piece_at bytes offsets p) refusals.HasVariant
 
 -- each of so many pieces, from p on, says something
 abbrev pub AreSaidBefore : List TypeTree → List ℕ → List ℕ → ℕ → ℕ → Type 0
@@ -100,7 +83,7 @@ pub record IsBadZone (types : List TypeTree) (bytes offsets : List ℕ) (p : ℕ
   pub column : ℕ
   pub within : column < length types
   pub before : AreSaidBefore types bytes offsets p column
-  pub cause : IsBadPiece (slice_index_or types column null_type) bytes offsets (p + column) e
+  pub cause : IsBadAt (slice_index_or types column null_type) bytes offsets (p + column) e
 
 -- why a zone is refused, of whose columns the pieces from p on are to speak
 abbrev pub RefusesZone : List TypeTree → List ℕ → List ℕ → ℕ → ZoneError → Type 0

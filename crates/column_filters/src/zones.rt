@@ -3,13 +3,13 @@
 ghost use Rattle.std.specs.Prelude.{◌≡◌, ◌+◌, ◌*◌, ◌<◌, ◌≤◌, ◌↔◌, IfErr, IfOk, IsTrue, MatchResult, OnOk, length};
 ghost use Rattle.std.specs.Prelude.{map, if◌then◌else◌};
 ghost use Rattle.column_filters.specs.declared.errors.ZoneError.TheVariants.{OutOfMemory};
-ghost use Rattle.column_filters.specs.Words.{AreEnough, AreOutcomes, AreSaid, BadOffsets, IsBadPiece, IsPiece};
+ghost use Rattle.column_filters.specs.Words.{AreEnough, AreOutcomes, AreSaid, BadOffsets, IsBadAt, IsPiece};
 ghost use Rattle.column_filters.specs.Words.{IsSaid, RefusesZone, RefusesZones, fault_of_piece, formula, known};
-ghost use Rattle.column_filters.specs.Words.{open_statistics, outcomes_byte, piece_at, type_of};
+ghost use Rattle.column_filters.specs.Words.{outcomes_byte, piece_at, type_of};
 
 use crate::errors::ZoneError;
 use filter_pruning::{Outcomes, outcomes_of};
-use statistics_bytes::decode_statistics_into;
+use statistics_bytes::decode_piece_into;
 use std::alloc::Global;
 use vortex_dtype::DType;
 use vortex_filter::Filter;
@@ -66,7 +66,7 @@ fn write_outcomes(
     ensures refused { IfErr result (RefusesZones (map type_of types.now)
         statistics.now offsets.now (length outcomes.old)) }
 {
-    let mut read = open_columns(alloc, types.len())?;
+    let mut read = empty_statistics(alloc, types.len())?;
     let mut piece = 0;
     for zone in 0..outcomes.len() {
         read_zone(
@@ -83,14 +83,14 @@ fn write_outcomes(
     Ok(())
 }
 
-/// Open statistics of so many columns.
-fn open_columns(alloc: Global, count: usize) -> Result<Vec<ColumnStatistics>, ZoneError>
+/// The statistics of no rows, for so many columns.
+fn empty_statistics(alloc: Global, count: usize) -> Result<Vec<ColumnStatistics>, ZoneError>
     ensures made { IfOk result (λ read. length read.items ≡ count) }
     ensures refused { IfErr result (λ e. e ≡ OutOfMemory) }
 {
     let mut columns = Vec::with_capacity(alloc, count)?;
     for column in 0..count {
-        columns.push(open_statistics())?;
+        columns.push(ColumnStatistics::empty())?;
     }
     Ok(columns)
 }
@@ -166,14 +166,10 @@ fn read_piece(
     ensures said { OnOk result
         (IsSaid (type_of dtype.now) statistics.now offsets.now piece (known read.new)) }
     ensures refused { IfErr result
-        (IsBadPiece (type_of dtype.now) statistics.now offsets.now piece) }
+        (IsBadAt (type_of dtype.now) statistics.now offsets.now piece) }
 {
     let bytes = bytes_of_piece(statistics, offsets, piece)?;
-    if bytes.is_empty() {
-        *read = open_statistics();
-        return Ok(());
-    }
-    match decode_statistics_into(alloc, dtype, bytes, read) {
+    match decode_piece_into(alloc, dtype, bytes, read) {
         Ok(()) => Ok(()),
         Err(refusal) => Err(fault_of_piece(piece, refusal)),
     }
@@ -208,16 +204,4 @@ fn bytes_of_piece<'a>(
         return Err(ZoneError::BadOffsets { piece });
     }
     Ok(&statistics[start as usize..end as usize])
-}
-
-/// Statistics that leave all cells open.
-fn open_statistics() -> ColumnStatistics
-    ensures { known result ≡ open_statistics }
-{
-    ColumnStatistics {
-        row_count: u64::MAX,
-        null_count: None,
-        lower: None,
-        upper: None,
-    }
 }

@@ -1,14 +1,14 @@
--- What statistics that are right for a zone allow of each of its cells.
-use Rattle.std.proofs.Common.{◌≡◌, ℕ, zero, suc, ◌<◌, ◌≤◌, Bool, true, false, cond, List, [], ◌∷◌, length, get_or, slice_get, count_by, Contains, Option, Some, None, IfSome, Ordering, refl, sym, ap, ◌∙◌, arith}
-use Rattle.std.proofs.lemmas.Bool.{false≢true}
+-- What statistics that are right for a zone, or leave all open, allow of each of its cells.
+use Rattle.std.proofs.Common.{◌≡◌, ◌⊎◌, inl, inr, ℕ, zero, suc, ◌<◌, ◌≤◌, Bool, true, false, cond, List, [], ◌∷◌, length, get_or, slice_get, count_by, Contains, Option, Some, None, IfSome, Ordering, refl, sym, ap, ◌∙◌, arith}
+use Rattle.std.proofs.lemmas.Bool.{false≢true, lt-ltb}
 use Rattle.std.proofs.lemmas.Bool.Decides.{nat_tests}
 use Rattle.std.proofs.lemmas.List.{get_or-map, length-map}
 use Rattle.std.proofs.lemmas.List.Sums.{count_by-le-length, get_or-le-sum_by, sum_by-cons}
-use Rattle.vortex_cells.specs.Cells.{Cell, HasValue, IsUpTo, is_null_cell}
+use Rattle.vortex_cells.specs.Cells.{Cell, HasValue, IsUpTo, cell_order, is_null_cell, order_from_above}
 use Rattle.vortex_statistics.specs.Statistics.{AreRight, IsBound, Known, KnownBound, some_null, some_value}
 use Rattle.filter_pruning.specs.Exactness.{Admits}
 use Rattle.vortex_filter.specs.Formula.{cell_at}
-use Rattle.filter_pruning.specs.Pruning.{AreStatisticsOf, column}
+use Rattle.filter_pruning.specs.Pruning.{AreOpen, AreStatisticsOf, column}
 
 -- ---- counts
 
@@ -71,7 +71,7 @@ bound_known : (cmp : Cell → Cell → Option Ordering) (bound : Option KnownBou
 bound_known cmp None cells x h v = tt
 bound_known cmp (Some b) cells x h v = h.bounds x v
 
--- ---- a cell of a zone, and of a row
+-- ---- a cell of a zone
 
 pub right_admits : (s : Known) (cells : List Cell) (x : Cell) → AreRight s cells → Contains cells x → Admits s x
 right_admits s cells x right c = record {
@@ -81,6 +81,33 @@ right_admits s cells x right c = record {
       let has : HasValue cells x = record { cell = c; value = v } in
       record { from = bound_known _ s.lower cells x right.lower has; to = bound_known _ s.upper cells x right.upper has };
 }
+
+-- ---- statistics that leave all open
+
+open_null : (rows : ℕ) (nulls : Option ℕ) → 0 < rows → nulls ≡ None → some_null rows nulls ≡ true
+open_null rows None some e = lt-ltb 0 rows some
+open_null rows (Some n) some e = absurd cc
+
+open_value : (rows : ℕ) (nulls : Option ℕ) → 0 < rows → nulls ≡ None → some_value rows nulls ≡ true
+open_value rows None some e = lt-ltb 0 rows some
+open_value rows (Some n) some e = absurd cc
+
+no_bound : (cmp : Cell → Cell → Option Ordering) (bound : Option KnownBound) (x : Cell) → bound ≡ None → IfSome bound (λ b. IsUpTo cmp b.value x)
+no_bound cmp None x e = tt
+no_bound cmp (Some b) x e = absurd cc
+
+open_admits : (s : Known) (x : Cell) → AreOpen s → Admits s x
+open_admits s x h = record {
+  null = λ e. open_null s.row_count s.null_count h.rows h.nulls;
+  value = λ e. open_value s.row_count s.null_count h.rows h.nulls;
+  within = λ e. record { from = no_bound cell_order s.lower x h.lower; to = no_bound order_from_above s.upper x h.upper };
+}
+
+known_admits : (s : Known) (cells : List Cell) (x : Cell) → AreOpen s ⊎ AreRight s cells → Contains cells x → Admits s x
+known_admits s cells x (inl h) c = open_admits s x h
+known_admits s cells x (inr h) c = right_admits s cells x h c
+
+-- ---- a row
 
 -- the cell of a row is one of its column's
 cell_of_row : (rows : List (List Cell)) (row : List Cell) (k : ℕ) → Contains rows row → Contains (column k rows) (cell_at row k)
@@ -92,4 +119,4 @@ cell_of_row rows row k c = (
 
 pub row_admits : (statistics : List Known) (rows : List (List Cell)) → AreStatisticsOf statistics rows → (row : List Cell) → Contains rows row
     → (k : ℕ) (s : Known) → slice_get statistics k ≡ Some s → Admits s (cell_at row k)
-row_admits statistics rows right row c k s e = right_admits s (column k rows) (cell_at row k) (right k s e) (cell_of_row rows row k c)
+row_admits statistics rows right row c k s e = known_admits s (column k rows) (cell_at row k) (right k s e) (cell_of_row rows row k c)

@@ -12,7 +12,7 @@ use vortex_value::Scalar;
 use vortex_value::laws::{order_is_reversed, order_is_transitive};
 
 /// What a filter can be on the rows of a zone, if these are right of its columns. A column without
-/// statistics may have any cells.
+/// statistics, or with some that leave all open, may have any cells.
 pub fn outcomes_of(filter: &Filter, statistics: &[ColumnStatistics]) -> Outcomes
     ensures value { result ≡ outcomes (formula filter.now) (map known statistics.now) }
     ensures covers { Covers (formula filter.now) (map known statistics.now) result }

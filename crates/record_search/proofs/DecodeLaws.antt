@@ -1,4 +1,4 @@
--- The statistics that bytes are, exactly where they are the encoding of statistics of the column.
+-- The statistics that a piece says of a column, exactly where it says any.
 use Rattle.std.proofs.Common.{◌≡◌, ◌<◌, ◌^◌, ◌&&◌, ℕ, ℤ, pos, negsuc, suc, zero, List, [], ◌∷◌, Bool, true, false, if◌then◌else◌, Option, None, Some, IfSome, Err, refl, sym, ap, ◌∙◌, subst, arith, nat_lt}
 use Rattle.std.specs.Str.{bytes_eq, is_utf8}
 use Rattle.std.proofs.lemmas.Bool.{and_from, and_parts, ltb-true, lt-ltb}
@@ -20,13 +20,15 @@ use Rattle.vortex_row.specs.Held.{AreBytes, IsWhole}
 use Rattle.vortex_row.proofs.ByteLaws.{bytes_after, bytes_first, bytes_rest, no_bytes}
 use Rattle.statistics_bytes.specs.Encoding.{AreOf, IsBoundOf, encoding}
 use Rattle.statistics_bytes.specs.EncodingAnswers.{ReadsAs}
+use Rattle.statistics_bytes.specs.Pieces.{Says, nothing_known}
 use Rattle.vortex_statistics.specs.Statistics.{Known, KnownBound}
 use Rattle.vortex_statistics.specs.declared.error.StatisticsError.{StatisticsError}
 use Rattle.vortex_statistics.specs.declared.error.StatisticsError.TheVariants.{OutOfMemory}
 use Rattle.vortex_value.specs.TypesWithin.{HasNoVariant}
 use Rattle.vortex_value.specs.Values.Content.{Content, content, null, string, text, whole}
 use Rattle.vortex_value.specs.Values.RawTree.{RawTree, absent, raw_bytes, raw_integer, raw_text}
-use Rattle.record_search.specs.Decoding.{are_bytes, are_of, bound_in, count_fits, has_bound, has_content, said_by, statistics_in}
+use Rattle.record_search.specs.Decoding.{are_bytes, are_of, bound_in, count_fits, has_bound, has_content, encoded_in, said_by, statistics_in}
+use Rattle.record_search.specs.Laws.{PiecesAreRead}
 use Rattle.record_search.proofs.Decoded.{IsFlat, IsFlatBound, IsFlatKnown, said_encoding}
 
 -- ---- bytes and numbers
@@ -189,7 +191,7 @@ pub record IsReadOf (column : ColumnType) (bytes : List ℕ) (s : Known) : Type 
   pub of : AreOf (column_type column) s
   pub is : bytes ≡ encoding s
 
-pub read_is : (column : ColumnType) (bytes : List ℕ) (s : Known) → statistics_in column bytes ≡ Some s → IsReadOf column bytes s
+read_is : (column : ColumnType) (bytes : List ℕ) (s : Known) → encoded_in column bytes ≡ Some s → IsReadOf column bytes s
 read_is column bytes s e =
     let said = said_by (column_type column) bytes in
     let p = chosen (bytes_eq (encoding said) bytes && are_of column said) said s e in
@@ -205,22 +207,36 @@ passed true s e = refl
 passed false s e = absurd cc
 
 -- and what has such an encoding is read
-pub is_read : (column : ColumnType) (bytes : List ℕ) (s : Known) → AreOf (column_type column) s → bytes ≡ encoding s → statistics_in column bytes ≡ Some s
+is_read : (column : ColumnType) (bytes : List ℕ) (s : Known) → AreOf (column_type column) s → bytes ≡ encoding s → encoded_in column bytes ≡ Some s
 is_read column bytes s h e =
     let said : said_by (column_type column) bytes ≡ s = ap (said_by (column_type column)) e ∙ said_encoding (column_type column) s (flat_known column s h) in
     let test : (bytes_eq (encoding s) bytes && are_of column s) ≡ true = and_from (bytes_eq (encoding s) bytes) (are_of column s) ((bytes_eq-Decides (encoding s) bytes).1 (sym e)) (column_has column s h) in
     ap (tested column bytes) said ∙ passed (bytes_eq (encoding s) bytes && are_of column s) s test
 
--- what is read of the column's type
-pub read_found : (t : TypeTree) (column : ColumnType) (bytes : List ℕ) (s : Known) → t ≡ column_type column → AreOf t s × (bytes ≡ encoding s) → Some s ≡ statistics_in column bytes
-read_found t column bytes s typed h = sym (is_read column bytes s (subst (λ (u : TypeTree). AreOf u s) typed h.0) h.1)
+-- ---- pieces
 
--- nothing is read only where nothing is there
-pub none_read : (t : TypeTree) (column : ColumnType) (bytes : List ℕ) (e : StatisticsError) → t ≡ column_type column → ((s : Known) → AreOf t s → bytes ≡ encoding s → ReadsAs s (Err e)) → ¬ (e ≡ OutOfMemory) → None ≡ statistics_in column bytes
-none_read t column bytes e typed reads other = by_read (statistics_in column bytes) refl
+first_known : (s t : Known) → Some s ≡ Some t → s ≡ t
+first_known s t e = cc
+
+pub said_of : (column : ColumnType) (piece : List ℕ) (s : Known) → statistics_in column piece ≡ Some s → Says (column_type column) piece s
+said_of column [] s e = sym (first_known nothing_known s e)
+said_of column (b ∷ bytes) s e = let r = read_is column (b ∷ bytes) s e in (r.of, r.is)
+
+found_in : (column : ColumnType) (piece : List ℕ) (s : Known) → Says (column_type column) piece s → statistics_in column piece ≡ Some s
+found_in column [] s said = ap (λ (t : Known). Some t) (sym said)
+found_in column (b ∷ bytes) s said = is_read column (b ∷ bytes) s said.0 said.1
+
+pub pieces_read : PiecesAreRead
+pieces_read column piece s = (said_of column piece s, found_in column piece s)
+
+-- what is read of the column's type
+pub read_found : (t : TypeTree) (column : ColumnType) (piece : List ℕ) (s : Known) → t ≡ column_type column → Says t piece s → Some s ≡ statistics_in column piece
+read_found t column piece s typed said = sym (found_in column piece s (subst (λ (u : TypeTree). Says u piece s) typed said))
+
+-- nothing is read only where nothing is said
+pub none_read : (t : TypeTree) (column : ColumnType) (piece : List ℕ) (e : StatisticsError) → t ≡ column_type column → ((s : Known) → Says t piece s → ReadsAs s (Err e)) → ¬ (e ≡ OutOfMemory) → None ≡ statistics_in column piece
+none_read t column piece e typed reads other = by_read (statistics_in column piece) refl
   where
-    by_read : (o : Option Known) → statistics_in column bytes ≡ o → None ≡ o
+    by_read : (o : Option Known) → statistics_in column piece ≡ o → None ≡ o
     by_read None h = refl
-    by_read (Some s) h =
-        let r = read_is column bytes s h in
-        absurd (other (reads s (subst (λ (u : TypeTree). AreOf u s) (sym typed) r.of) r.is))
+    by_read (Some s) h = absurd (other (reads s (subst (λ (u : TypeTree). Says u piece s) (sym typed) (said_of column piece s h))))

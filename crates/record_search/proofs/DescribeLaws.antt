@@ -24,7 +24,7 @@ use Rattle.vortex_value.specs.Equality.{same_type}
 use Rattle.vortex_value.specs.Lemmas.EqualityLaws.{same_type-Decides}
 use Rattle.vortex_value.specs.Order.{order}
 use Rattle.zone_index.specs.Encoding.{bytes_encoding}
-use Rattle.record_search.specs.Searched.{AreDescribed, AreDescribedBy, AreDescribedFully, AreEncoded, AreRowsOf, IsCutOf, IsFullOf, IsRightOf}
+use Rattle.record_search.specs.Searched.{AreDescribed, AreDescribedBy, AreDescribedFully, AreEncoded, AreRowsOf, IsCutOf, IsFullOf, IsRightEncoding, IsRightOf}
 use Rattle.record_search.proofs.RowLaws.{cell_typed}
 
 -- ---- columns
@@ -120,25 +120,29 @@ described_by Is columns rows k bytes output new below before one appended =
     length_front [] (suc j) h = absurd (omega arith)
     length_front (b ∷ cs) (suc j) h = ap suc (length_front cs j (omega arith))
 
+-- such statistics are right for a column
+right_encoding : (columns : List ColumnType) (rows : List (List Cell)) (k n : ℕ) (s : ColumnStatistics) → k < length columns → AreRowsOf columns rows → IsCutOf n (column k rows) s → AreRight (known s) (column k rows) → IsHeldKnown (known s) → length (encoding (known s)) < 2 ^ 64
+    → IsRightEncoding (column_type (get_or columns k some_column)) (column k rows) (encoding (known s))
+right_encoding columns rows k n s below of cut right held fits = record {
+  fits = fits;
+  statistics = known s;
+  held = held;
+  is = refl;
+  typed = cut_typed (column_type (get_or columns k some_column)) n (column k rows) s (column_typed columns rows k some_column of below) cut right;
+  right = right;
+}
+
 -- a column more
 pub described_more : (columns : List ColumnType) (rows : List (List Cell)) (k n : ℕ) (s : ColumnStatistics) (output new : List ℕ) → k < length columns → AreRowsOf columns rows → AreDescribed (take k columns) rows output
     → IsCutOf n (column k rows) s → AreRight (known s) (column k rows) → IsHeldKnown (known s) → length (encoding (known s)) < 2 ^ 64 → new ≡ output ++ bytes_encoding (encoding (known s)) → AreDescribed (take (k + 1) columns) rows new
 described_more columns rows k n s output new below of before cut right held fits appended =
-    let c = get_or columns k some_column in
-    described_by IsRightOf columns rows k (encoding (known s)) output new below before (record {
-      fits = fits;
-      statistics = known s;
-      held = held;
-      is = refl;
-      typed = cut_typed (column_type c) n (column k rows) s (column_typed columns rows k some_column of below) cut right;
-      right = right;
-    }) appended
+    described_by IsRightOf columns rows k (encoding (known s)) output new below before (inr (right_encoding columns rows k n s below of cut right held fits)) appended
 
 -- the same, of all that is to be known
-pub fully_more : (columns : List ColumnType) (rows : List (List Cell)) (k n : ℕ) (s : ColumnStatistics) (output new : List ℕ) → k < length columns → AreDescribedFully n (take k columns) rows output → IsCutOf n (column k rows) s → new ≡ output ++ bytes_encoding (encoding (known s))
-    → AreDescribedFully n (take (k + 1) columns) rows new
-fully_more columns rows k n s output new below before cut appended =
-    described_by (IsFullOf n) columns rows k (encoding (known s)) output new below before (record { statistics = s; cut = cut; is = refl }) appended
+pub fully_more : (columns : List ColumnType) (rows : List (List Cell)) (k n : ℕ) (s : ColumnStatistics) (output new : List ℕ) → k < length columns → AreRowsOf columns rows → AreDescribedFully n (take k columns) rows output
+    → IsCutOf n (column k rows) s → AreRight (known s) (column k rows) → IsHeldKnown (known s) → length (encoding (known s)) < 2 ^ 64 → new ≡ output ++ bytes_encoding (encoding (known s)) → AreDescribedFully n (take (k + 1) columns) rows new
+fully_more columns rows k n s output new below of before cut right held fits appended =
+    described_by (IsFullOf n) columns rows k (encoding (known s)) output new below before (right_encoding columns rows k n s below of cut right held fits, record { statistics = s; cut = cut; is = refl }) appended
 
 -- ---- records
 

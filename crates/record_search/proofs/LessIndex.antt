@@ -1,53 +1,22 @@
 -- An index that says less of some columns is right for the same bytes.
-use Rattle.std.proofs.Common.{◌≡◌, ◌<◌, ◌+◌, ◌^◌, ℕ, zero, suc, List, [], ◌∷◌, ◌++◌, Bool, true, false, cond, Result, Ok, Err, refl, sym, ap, ap₂, ◌∙◌, subst, length, take, drop, arith, append_assoc, count_by, length-append, OnOk, is_ok, if◌then◌else◌}
-use Rattle.std.specs.Int.{to_be_bytes, to_le_bytes, w64}
+use Rattle.std.proofs.Common.{◌≡◌, ◌<◌, ◌+◌, ◌^◌, inl, ℕ, zero, suc, List, [], ◌∷◌, ◌++◌, Bool, true, false, cond, refl, sym, ap, ap₂, ◌∙◌, subst, length, take, drop, arith, count_by, length-append}
+use Rattle.std.specs.Int.{to_le_bytes, w64}
 use Rattle.std.specs.List.{All, AllByRecursion, flat_map}
-use Rattle.std.proofs.lemmas.List.{length-map}
 use Rattle.std.proofs.lemmas.List.Concat.{flat_map-cons}
 use Rattle.csv_records.specs.Records.{records_of}
 use Rattle.record_rows.specs.Cells.{column_type}
 use Rattle.record_rows.specs.declared.schema.ColumnType.{ColumnType}
-use Rattle.vortex_dtype.specs.TypeTree.{TypeTree}
-use Rattle.vortex_filter.specs.Formula.{cell_at}
 use Rattle.filter_pruning.specs.Pruning.{column}
 use Rattle.vortex_cells.specs.Cells.{Cell}
-use Rattle.statistics_bytes.specs.Encoding.{count_bytes, encoding}
-use Rattle.statistics_bytes.proofs.CountBytes.{big_endian-length, written_count}
-use Rattle.zone_index.specs.Encoding.{ArePieces, FitsEncoding, FitsZone, HavePieces, IndexValue, ZoneValue, bytes_encoding, index_value, is_wanted, wanted_of, wanted_pieces, wanted_zones, zone_value, zone_values}
+use Rattle.zone_index.specs.Encoding.{ArePieces, FitsEncoding, HavePieces, IndexValue, ZoneValue, bytes_encoding, index_value, is_wanted, wanted_of, wanted_pieces, wanted_zones, zone_value, zone_values}
 use Rattle.zone_index.specs.EncodingReading.{bytes_at}
 use Rattle.zone_index.specs.Zones.{Follow, IsZoneOf, zone_records}
 use Rattle.zone_index.specs.declared.encoding.Index.{Index}
 use Rattle.zone_index.specs.declared.zones.Zone.{Zone}
 use Rattle.zone_index.proofs.FieldLaws.{bytes_again, ok_is}
-use Rattle.record_search.specs.Searched.{AreDescribed, AreEncoded, DescribeRows, IsRightEncoding, IsRightOf, IsRowIndex, has_row, row_under, rows_alone, rows_under}
+use Rattle.record_search.specs.Searched.{AreDescribed, AreEncoded, DescribeRows, IsRightOf, IsRowIndex, has_row, rows_under}
 use Rattle.record_rows.specs.declared.schema.Schema.{Schema}
-use Rattle.record_search.proofs.DescribeLaws.{rows_counted}
-
--- ---- the encoding of statistics that say the number of rows alone
-
-abbrev pub alone : ℕ → List ℕ
-alone rows = encoding (rows_alone rows)
-
-alone_long : (rows : ℕ) → length (alone rows) ≡ 10
-alone_long rows = let e : length (count_bytes rows ++ []) ≡ 8 = length-append (count_bytes rows) [] ∙ omega (arith, big_endian-length 8 rows) in omega (arith, e)
-
--- it is written as a head and a count
-pub alone_pushed : {T E : Type 0} (r : Result T E) (old one two count head : List ℕ) (rows : ℕ) → head ≡ 10 ∷ 0 ∷ 0 ∷ 0 ∷ 0 ∷ 0 ∷ 0 ∷ 0 ∷ 1 ∷ 0 ∷ [] → one ≡ old ++ head → count ≡ to_be_bytes w64 rows → two ≡ (if is_ok r then one ++ count else one) → OnOk r (two ≡ old ++ bytes_encoding (alone rows))
-alone_pushed (Ok x) old one two count head rows is first counted second =
-    let same : head ++ count ≡ bytes_encoding (alone rows) = ap₂ (λ (h c : List ℕ). h ++ c) is (counted ∙ written_count rows) in
-    second ∙ ap (λ (l : List ℕ). l ++ count) first ∙ append_assoc old head count ∙ ap (λ (l : List ℕ). old ++ l) same
-alone_pushed (Err e) old one two count head rows is first counted second = tt
-
--- it is right for each column
-alone_right : (t : TypeTree) (k n : ℕ) (rows : List (List Cell)) → n < 2 ^ 64 → n ≡ length rows → IsRightEncoding t (column k rows) (alone n)
-alone_right t k n rows few is = record {
-  fits = omega (arith, alone_long n);
-  statistics = rows_alone n;
-  held = record { rows = few; nulls = tt; lower = tt; upper = tt };
-  is = refl;
-  typed = record { lower = tt; upper = tt };
-  right = record { rows = is ∙ sym (length-map rows (λ row. cell_at row k)); nulls = tt; lower = tt; upper = tt };
-}
+use Rattle.record_search.proofs.ReadBack.{piece_fits}
 
 -- ---- pieces are the encodings
 
@@ -58,7 +27,7 @@ encodings_fit : (k : ℕ) (cs : List ColumnType) (rows : List (List Cell)) (ps :
 encodings_fit k [] rows [] h = tt
 encodings_fit k [] rows (p ∷ ps) h = absurd h
 encodings_fit k (c ∷ cs) rows [] h = absurd h
-encodings_fit k (c ∷ cs) rows (p ∷ ps) h = (h.0.fits, encodings_fit (suc k) cs rows ps h.1)
+encodings_fit k (c ∷ cs) rows (p ∷ ps) h = (piece_fits (column_type c) (column k rows) p h.0, encodings_fit (suc k) cs rows ps h.1)
 
 some_bytes : (p rest : List ℕ) → [] ≡ bytes_encoding p ++ rest → ⊥
 some_bytes p rest e =
@@ -77,20 +46,20 @@ same_pieces (p ∷ ps) (q ∷ qs) f g e =
 
 -- ---- some of them not wanted
 
-one_of : (t : TypeTree) (cells : List Cell) (p u : List ℕ) (b : Bool) → IsRightEncoding t cells p → IsRightEncoding t cells u → IsRightEncoding t cells (cond b p u)
-one_of t cells p u true h g = h
-one_of t cells p u false h g = g
+one_of : (c : ColumnType) (cells : List Cell) (p : List ℕ) (b : Bool) → IsRightOf c cells p → IsRightOf c cells (cond b p [])
+one_of c cells p true h = h
+one_of c cells p false h = inl refl
 
-less_encodings : (wanted : List Bool) (n k : ℕ) (cs : List ColumnType) (rows : List (List Cell)) (ps : List (List ℕ)) → n < 2 ^ 64 → n ≡ length rows → AreEncoded IsRightOf k cs rows ps → AreEncoded IsRightOf k cs rows (wanted_pieces wanted k (alone n) ps)
-less_encodings wanted n k [] rows [] few is h = tt
-less_encodings wanted n k [] rows (p ∷ ps) few is h = absurd h
-less_encodings wanted n k (c ∷ cs) rows [] few is h = absurd h
-less_encodings wanted n k (c ∷ cs) rows (p ∷ ps) few is h = (one_of (column_type c) (column k rows) p (alone n) (is_wanted wanted k) h.0 (alone_right (column_type c) k n rows few is), less_encodings wanted n (suc k) cs rows ps few is h.1)
+less_encodings : (wanted : List Bool) (k : ℕ) (cs : List ColumnType) (rows : List (List Cell)) (ps : List (List ℕ)) → AreEncoded IsRightOf k cs rows ps → AreEncoded IsRightOf k cs rows (wanted_pieces wanted k ps)
+less_encodings wanted k [] rows [] h = tt
+less_encodings wanted k [] rows (p ∷ ps) h = absurd h
+less_encodings wanted k (c ∷ cs) rows [] h = absurd h
+less_encodings wanted k (c ∷ cs) rows (p ∷ ps) h = (one_of c (column k rows) p (is_wanted wanted k) h.0, less_encodings wanted (suc k) cs rows ps h.1)
 
-less_described : (wanted : List Bool) (n m : ℕ) (cs : List ColumnType) (rows : List (List Cell)) (z : ZoneValue) (ps : List (List ℕ)) → n < 2 ^ 64 → n ≡ length rows → ArePieces m z ps → AreDescribed cs rows z.statistics → AreDescribed cs rows (flat_map bytes_encoding (wanted_pieces wanted 0 (alone n) ps))
-less_described wanted n m cs rows z ps few is are h =
+less_described : (wanted : List Bool) (m : ℕ) (cs : List ColumnType) (rows : List (List Cell)) (z : ZoneValue) (ps : List (List ℕ)) → ArePieces m z ps → AreDescribed cs rows z.statistics → AreDescribed cs rows (flat_map bytes_encoding (wanted_pieces wanted 0 ps))
+less_described wanted m cs rows z ps are h =
     let same : h.encodings ≡ ps = same_pieces h.encodings ps (encodings_fit 0 cs rows h.encodings h.each) are.fit (sym h.is ∙ are.is) in
-    record { encodings = wanted_pieces wanted 0 (alone n) ps; is = refl; each = less_encodings wanted n 0 cs rows ps few is (subst (AreEncoded IsRightOf 0 cs rows) same h.each) }
+    record { encodings = wanted_pieces wanted 0 ps; is = refl; each = less_encodings wanted 0 cs rows ps (subst (AreEncoded IsRightOf 0 cs rows) same h.each) }
 
 -- ---- zones
 
@@ -100,10 +69,9 @@ pub record IsLess (wanted : List Bool) (m : ℕ) (x y : Zone) : Type 0 where
   pub long : x.length ≡ y.length
   pub records : x.records ≡ y.records
   pub rows : x.rows ≡ y.rows
-  pub few : y.rows < 2 ^ 64
   pub pieces : List (List ℕ)
   pub are : ArePieces m (zone_value y) pieces
-  pub statistics : x.statistics.items ≡ flat_map bytes_encoding (wanted_pieces wanted 0 (alone y.rows) pieces)
+  pub statistics : x.statistics.items ≡ flat_map bytes_encoding (wanted_pieces wanted 0 pieces)
 
 abbrev AreLess : List Bool → ℕ → List Zone → List Zone → Type 0
 AreLess wanted m [] [] = Unit {0}
@@ -111,13 +79,12 @@ AreLess wanted m [] (y ∷ ys) = ⊥
 AreLess wanted m (x ∷ xs) [] = ⊥
 AreLess wanted m (x ∷ xs) (y ∷ ys) = IsLess wanted m x y × AreLess wanted m xs ys
 
-first_less : (wanted : List Bool) (m : ℕ) (x y : Zone) (ps : List (List ℕ)) → FitsZone (zone_value y) → ArePieces m (zone_value y) ps → zone_value x ≡ record (zone_value y) { statistics = flat_map bytes_encoding (wanted_pieces wanted 0 (alone y.rows) ps) } → IsLess wanted m x y
-first_less wanted m x y ps fits are e = record {
+first_less : (wanted : List Bool) (m : ℕ) (x y : Zone) (ps : List (List ℕ)) → ArePieces m (zone_value y) ps → zone_value x ≡ record (zone_value y) { statistics = flat_map bytes_encoding (wanted_pieces wanted 0 ps) } → IsLess wanted m x y
+first_less wanted m x y ps are e = record {
   first = ap (λ (v : ZoneValue). v.first) e;
   long = ap (λ (v : ZoneValue). v.length) e;
   records = ap (λ (v : ZoneValue). v.records) e;
   rows = ap (λ (v : ZoneValue). v.rows) e;
-  few = fits.rows;
   pieces = ps;
   are = are;
   statistics = ap (λ (v : ZoneValue). v.statistics) e;
@@ -126,16 +93,16 @@ first_less wanted m x y ps fits are e = record {
 heads : (v w : ZoneValue) (vs ws : List ZoneValue) → v ∷ vs ≡ w ∷ ws → (v ≡ w) × (vs ≡ ws)
 heads v w vs ws e = (cc, cc)
 
-zones_less : (wanted : List Bool) (m : ℕ) (xs ys : List Zone) (pieces : List (List (List ℕ))) → AllByRecursion FitsZone (zone_values ys) → HavePieces m (zone_values ys) pieces → zone_values xs ≡ wanted_zones wanted (λ rows. alone rows) (zone_values ys) pieces → AreLess wanted m xs ys
-zones_less wanted m [] [] [] fits have e = tt
-zones_less wanted m [] [] (ps ∷ pieces) fits have e = absurd have
-zones_less wanted m [] (y ∷ ys) [] fits have e = absurd have
-zones_less wanted m [] (y ∷ ys) (ps ∷ pieces) fits have e = absurd cc
-zones_less wanted m (x ∷ xs) [] pieces fits have e = absurd cc
-zones_less wanted m (x ∷ xs) (y ∷ ys) [] fits have e = absurd have
-zones_less wanted m (x ∷ xs) (y ∷ ys) (ps ∷ pieces) fits have e =
-    let parts = heads (zone_value x) (record (zone_value y) { statistics = flat_map bytes_encoding (wanted_pieces wanted 0 (alone y.rows) ps) }) (zone_values xs) (wanted_zones wanted (λ rows. alone rows) (zone_values ys) pieces) e in
-    (first_less wanted m x y ps fits.0 have.0 parts.0, zones_less wanted m xs ys pieces fits.1 have.1 parts.1)
+zones_less : (wanted : List Bool) (m : ℕ) (xs ys : List Zone) (pieces : List (List (List ℕ))) → HavePieces m (zone_values ys) pieces → zone_values xs ≡ wanted_zones wanted (zone_values ys) pieces → AreLess wanted m xs ys
+zones_less wanted m [] [] [] have e = tt
+zones_less wanted m [] [] (ps ∷ pieces) have e = absurd have
+zones_less wanted m [] (y ∷ ys) [] have e = absurd have
+zones_less wanted m [] (y ∷ ys) (ps ∷ pieces) have e = absurd cc
+zones_less wanted m (x ∷ xs) [] pieces have e = absurd cc
+zones_less wanted m (x ∷ xs) (y ∷ ys) [] have e = absurd have
+zones_less wanted m (x ∷ xs) (y ∷ ys) (ps ∷ pieces) have e =
+    let parts = heads (zone_value x) (record (zone_value y) { statistics = flat_map bytes_encoding (wanted_pieces wanted 0 ps) }) (zone_values xs) (wanted_zones wanted (zone_values ys) pieces) e in
+    (first_less wanted m x y ps have.0 parts.0, zones_less wanted m xs ys pieces have.1 parts.1)
 
 follow_less : (wanted : List Bool) (m at end : ℕ) (xs ys : List Zone) → AreLess wanted m xs ys → Follow at ys end → Follow at xs end
 follow_less wanted m at end [] [] e h = h
@@ -160,8 +127,7 @@ zone_less wanted m s bytes x y e h =
     let d = s.delimiter.byte in
     let own = records_same wanted m d bytes x y e in
     let there = zone_records d bytes y in
-    let counted : y.rows ≡ length (rows_under s there) = h.rows ∙ sym (rows_counted (row_under s) there) in
-    let less : DescribeRows s (flat_map bytes_encoding (wanted_pieces wanted 0 (alone y.rows) e.pieces)) there = less_described wanted y.rows m s.columns.items (rows_under s there) (zone_value y) e.pieces e.few counted e.are h.described in
+    let less : DescribeRows s (flat_map bytes_encoding (wanted_pieces wanted 0 e.pieces)) there = less_described wanted m s.columns.items (rows_under s there) (zone_value y) e.pieces e.are h.described in
     record {
       inside = omega (arith, h.inside, e.first, e.long);
       records = e.records ∙ h.records ∙ ap length (sym own);
@@ -175,12 +141,12 @@ all_less wanted m s bytes (x ∷ xs) [] e h k z below = absurd e
 all_less wanted m s bytes (x ∷ xs) (y ∷ ys) e h zero z below = zone_less wanted m s bytes x y e.0 (h 0 y (omega arith))
 all_less wanted m s bytes (x ∷ xs) (y ∷ ys) e h (suc k) z below = all_less wanted m s bytes xs ys e.1 (λ j w under. h (suc j) w (omega arith)) k z (omega arith)
 
-pub index_less : (s : Schema) (n : ℕ) (pieces : List (List (List ℕ))) (wanted : List Bool) (written read : Index) (bytes : List ℕ) → FitsEncoding n (index_value written) pieces → index_value read ≡ wanted_of wanted (λ rows. alone rows) (index_value written) pieces
+pub index_less : (s : Schema) (n : ℕ) (pieces : List (List (List ℕ))) (wanted : List Bool) (written read : Index) (bytes : List ℕ) → FitsEncoding n (index_value written) pieces → index_value read ≡ wanted_of wanted (index_value written) pieces
     → IsRowIndex s written.start written.zones.items bytes → IsRowIndex s read.start read.zones.items bytes
 index_less s n pieces wanted written read bytes fits e h =
     let d = s.delimiter.byte in
     let start : read.start ≡ written.start = ap (λ (v : IndexValue). v.start) e in
-    let zones : AreLess wanted n read.zones.items written.zones.items = zones_less wanted n read.zones.items written.zones.items pieces fits.parts.zones fits.have (ap (λ (v : IndexValue). v.zones) e) in
+    let zones : AreLess wanted n read.zones.items written.zones.items = zones_less wanted n read.zones.items written.zones.items pieces fits.have (ap (λ (v : IndexValue). v.zones) e) in
     record {
       follow = subst (λ (k : ℕ). Follow k read.zones.items (length bytes)) (sym start) (follow_less wanted n written.start (length bytes) read.zones.items written.zones.items zones h.follow);
       records = ap (λ (k : ℕ). records_of d (drop k bytes)) start ∙ h.records ∙ sym (all_records_same wanted n d bytes read.zones.items written.zones.items zones);

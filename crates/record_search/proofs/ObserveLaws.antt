@@ -246,7 +246,7 @@ encoding_more columns n ss s output new below before pushed rows are all =
     let was = before rows are p.0 in
     subst (λ (j : ℕ). AreDescribed (take j columns) rows new × AreDescribedFully n (take j columns) rows new) long (
       described_more columns rows k n pushed.cut output new below are was.0 cut (pushed.right (column k rows) complete.right) pushed.held pushed.fits pushed.appended,
-      fully_more columns rows k n pushed.cut output new below was.1 cut pushed.appended,
+      fully_more columns rows k n pushed.cut output new below are was.1 cut (pushed.right (column k rows) complete.right) pushed.held pushed.fits pushed.appended,
     )
 
 -- what is pushed, if it is

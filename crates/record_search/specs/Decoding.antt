@@ -12,6 +12,7 @@ use Rattle.vortex_dtype.specs.declared.nullability.Nullability.{Nullability}
 use Rattle.vortex_pvalue.specs.Numbers.{in_range}
 use Rattle.vortex_row.specs.Keys.{inverted}
 use Rattle.statistics_bytes.specs.Encoding.{encoding}
+use Rattle.statistics_bytes.specs.Pieces.{nothing_known}
 use Rattle.vortex_statistics.specs.Statistics.{Known, KnownBound}
 use Rattle.vortex_value.specs.Values.Content.{Content, null, string, text, whole}
 
@@ -89,10 +90,15 @@ abbrev pub are_of : ColumnType → Known → Bool
 are_of column s = nat_lt s.row_count (2 ^ 64) && (count_fits s.null_count && (has_bound column s.lower && has_bound column s.upper))
 
 -- the statistics of a column whose encoding the bytes are, if they are one
-abbrev pub statistics_in : ColumnType → List ℕ → Option Known
-statistics_in column bytes =
+abbrev pub encoded_in : ColumnType → List ℕ → Option Known
+encoded_in column bytes =
     let s = said_by (column_type column) bytes in
     if bytes_eq (encoding s) bytes && are_of column s then Some s else None
+
+-- what a piece says of a column, if it says any: nothing is known if it is empty
+abbrev pub statistics_in : ColumnType → List ℕ → Option Known
+statistics_in column [] = Some nothing_known
+statistics_in column (b ∷ bytes) = encoded_in column (b ∷ bytes)
 
 -- ---- the statistics of all columns
 
@@ -112,7 +118,7 @@ abbrev pub after_piece : ColumnType → Option (List ℕ × List ℕ) → (List 
 after_piece column None others = None
 after_piece column (Some piece) others = known_before (statistics_in column piece.0) (others piece.1)
 
--- the statistics of each column, each encoding after its length, and nothing else
+-- what the pieces of each column say, each after its length, and nothing else
 abbrev pub columns_in : List ColumnType → List ℕ → Option (List Known)
 columns_in [] bytes = if length bytes == 0 then Some [] else None
 columns_in (c ∷ cs) bytes = after_piece c (piece_in bytes) (λ rest. columns_in cs rest)

@@ -1,14 +1,16 @@
 -- Laws of rows and statistics in a search.
-use Rattle.std.specs.Prelude.{◌≡◌, ◌++◌, ℕ, List, [], Bool, not, Option, None, Some, Ok, length, map}
+use Rattle.std.specs.Prelude.{◌≡◌, ◌↔◌, ◌++◌, ℕ, List, [], Bool, not, Option, None, Some, Ok, length, map}
 use Rattle.std.specs.Io.KnownBytes.{Appends}
 use Rattle.std.specs.List.{AllPass}
 use Rattle.csv_records.specs.Rows.{rows_of}
+use Rattle.record_rows.specs.Cells.{column_type}
 use Rattle.record_rows.specs.Rows.{IsRow}
 use Rattle.record_rows.specs.declared.schema.ColumnType.{ColumnType}
 use Rattle.vortex_filter.specs.Formula.{Formula}
 use Rattle.vortex_cells.specs.Cells.{cell_of}
+use Rattle.vortex_statistics.specs.Statistics.{Known}
 use Rattle.vortex_value.specs.declared.scalars.Scalar.{Scalar}
-use Rattle.statistics_bytes.specs.Encoding.{encoding}
+use Rattle.statistics_bytes.specs.Pieces.{Says}
 use Rattle.zone_index.specs.Encoding.{FitsEncoding, index_value, wanted_of}
 use Rattle.zone_index.specs.Records.{is_same}
 use Rattle.zone_index.specs.Sinks.{written_of}
@@ -18,7 +20,8 @@ use Rattle.zone_index.specs.declared.search.Tally.{Tally}
 use Rattle.zone_index.specs.declared.zones.Zone.{Zone}
 use Rattle.record_search.specs.Answers.{AnswersFindRows}
 use Rattle.record_search.specs.Contents.{row_of}
-use Rattle.record_search.specs.Searched.{DescribeRows, IsRowIndex, decision_of, has_row, matches_record, records_under, rows_alone}
+use Rattle.record_search.specs.Decoding.{statistics_in}
+use Rattle.record_search.specs.Searched.{DescribeRows, IsRowIndex, decision_of, has_row, matches_record, records_under}
 use Rattle.record_rows.specs.declared.schema.Schema.{Schema}
 
 -- the computed row is the one that is read, whatever stands in place of a cell; without rows there is none
@@ -27,6 +30,10 @@ pub record RowsAreRead : Type 0 where
       → IsRow delimiter lenient columns line row refused → row_of delimiter lenient columns line ≡ Some (map cell_of row)
   pub none : (delimiter : ℕ) (lenient : Bool) (columns : List ColumnType) (line : List ℕ)
       → rows_of delimiter line ≡ [] → row_of delimiter lenient columns line ≡ None
+
+-- the computed statistics are those that the piece says
+abbrev pub PiecesAreRead : Type 0
+PiecesAreRead = (column : ColumnType) (piece : List ℕ) (s : Known) → (statistics_in column piece ≡ Some s) ↔ Says (column_type column) piece s
 
 -- where statistics that are right for records decide that none matches, none does, and where they decide that each does, each
 -- does that has a row
@@ -41,7 +48,7 @@ pub record DecisionsAreRight : Type 0 where
 -- what is read back of an index that was written is right for the bytes for which the index is, whichever columns are wanted
 abbrev pub IndexesAreReadBack : Type 0
 IndexesAreReadBack = (s : Schema) (n : ℕ) (pieces : List (List (List ℕ))) (wanted : List Bool) (written read : Index) (bytes : List ℕ) → FitsEncoding n (index_value written) pieces
-    → index_value read ≡ wanted_of wanted (λ rows. encoding (rows_alone rows)) (index_value written) pieces
+    → index_value read ≡ wanted_of wanted (index_value written) pieces
     → IsRowIndex s written.start written.zones.items bytes → IsRowIndex s read.start read.zones.items bytes
 
 -- where a search by an index that is right for the bytes has answered, it has written what a search of all records behind the

@@ -1,5 +1,5 @@
 -- Which records match, and what statistics say of their rows.
-use Rattle.std.specs.Prelude.{◌≡◌, ◌++◌, ◌<◌, ◌^◌, ◌&&◌, ℕ, suc, List, [], ◌∷◌, Bool, false, true, Option, None, Some, Vec, filter_map, if◌then◌else◌, is_some, length, map, not, ◌+◌, is_none}
+use Rattle.std.specs.Prelude.{◌≡◌, ◌⊎◌, ◌++◌, ◌<◌, ◌^◌, ◌&&◌, ℕ, suc, List, [], ◌∷◌, Bool, false, true, Option, None, Some, Vec, filter_map, if◌then◌else◌, is_some, length, map, not, ◌+◌, is_none}
 use Rattle.std.specs.Global.{Global}
 use Rattle.std.specs.List.{AllByRecursion, flat_map}
 use Rattle.csv_records.specs.Records.{records_of}
@@ -126,16 +126,13 @@ pub record IsRightEncoding (t : TypeTree) (cells : List Cell) (bytes : List ℕ)
   pub typed : AreTyped t statistics
   pub right : AreRight statistics cells
 
--- statistics that say how many rows there are, and no more
-abbrev pub rows_alone : ℕ → Known
-rows_alone rows = record { row_count = rows; null_count = None; lower = None; upper = None }
-
--- what the bytes of a column are to be
+-- what the piece of a column is to be: such an encoding, or empty, since nothing is known
 abbrev pub IsRightOf : ColumnType → List Cell → List ℕ → Type 0
-IsRightOf c cells bytes = IsRightEncoding (column_type c) cells bytes
+IsRightOf c cells bytes = (bytes ≡ []) ⊎ IsRightEncoding (column_type c) cells bytes
 
+-- so that it says all that is to be known
 abbrev pub IsFullOf : ℕ → ColumnType → List Cell → List ℕ → Type 0
-IsFullOf n c cells bytes = IsFullEncoding n cells bytes
+IsFullOf n c cells bytes = IsRightEncoding (column_type c) cells bytes × IsFullEncoding n cells bytes
 
 -- there are such bytes for each column, from this place of a row on
 abbrev pub AreEncoded : (ColumnType → List Cell → List ℕ → Type 0) → ℕ → List ColumnType → List (List Cell) → List (List ℕ) → Type 0
@@ -150,7 +147,7 @@ pub record AreDescribedBy (Is : ColumnType → List Cell → List ℕ → Type 0
   pub is : bytes ≡ flat_map bytes_encoding encodings
   pub each : AreEncoded Is 0 columns rows encodings
 
--- the bytes are statistics of each column that are right for the rows
+-- the bytes are statistics of each column that are right for the rows, as far as they are known
 abbrev pub AreDescribed : List ColumnType → List (List Cell) → List ℕ → Type 0
 AreDescribed columns rows bytes = AreDescribedBy IsRightOf columns rows bytes
 

@@ -3,7 +3,7 @@
 //! These functions do nothing when they run. The contract of each is a law over the definitions in
 //! `specs/`, and its proof is the law's proof.
 
-ghost use Rattle.record_search.specs.Laws.{DecisionsAreRight, IndexesAreReadBack, IndexesFindAll, RowsAreRead};
+ghost use Rattle.record_search.specs.Laws.{DecisionsAreRight, IndexesAreReadBack, IndexesFindAll, PiecesAreRead, RowsAreRead};
 
 use vortex_row::laws::{keys_are_apart, values_have_no_typed};
 use vortex_value::laws::{order_is_reversed, order_is_transitive};
@@ -12,6 +12,12 @@ use vortex_value::laws::{order_is_reversed, order_is_transitive};
 /// has none.
 pub fn rows_are_read()
     ensures { RowsAreRead }
+{}
+
+/// The statistics that are computed of a piece are those that it says, for each type that columns of
+/// records have.
+pub fn pieces_are_read()
+    ensures { PiecesAreRead }
 {}
 
 /// What statistics of a zone decide of a filter is so of each of its records.
@@ -24,8 +30,8 @@ pub fn decisions_are_right()
     order_is_transitive();
 }
 
-/// What is read back of an index that was written is right for each file for which the index is, if
-/// statistics that say the number of rows alone stand in place of those that are not wanted.
+/// What is read back of an index that was written is right for each file for which the index is, also
+/// if it says nothing of columns that are not wanted.
 pub fn indexes_are_read_back()
     ensures { IndexesAreReadBack }
 {}

@@ -11,7 +11,6 @@ mod naming;
 mod reading;
 mod schema;
 mod searching;
-mod unread;
 
 pub use describing::RowDescriber;
 pub use filtering::RowFilter;
@@ -20,4 +19,3 @@ pub use reading::read_statistics;
 pub use record_rows::dtype_of;
 pub use schema::{Schema, row_of_record};
 pub use searching::{count_rows, find_rows, index_rows};
-pub use unread::RowsAlone;

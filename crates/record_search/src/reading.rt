@@ -5,11 +5,12 @@ ghost use Rattle.record_search.specs.Words.{columns_in, known, piece_in, statist
 
 use crate::describing::empty_statistics;
 use record_rows::{ColumnType, dtype_of};
-use statistics_bytes::decode_statistics_into;
+use statistics_bytes::decode_piece_into;
 use std::alloc::{AllocError, Global};
 use vortex_statistics::{ColumnStatistics, StatisticsError};
 
-/// The statistics of each column, where the bytes are their encodings, each after its length.
+/// The statistics of each column, where the bytes are their pieces, each after its length. An empty
+/// piece leaves all open.
 pub fn read_statistics(
     alloc: Global,
     columns: &[ColumnType],
@@ -26,8 +27,8 @@ pub fn read_statistics(
     }
 }
 
-/// Puts the statistics of each column in the place of these. Whether the bytes are their encodings;
-/// if not, these may say anything.
+/// Puts the statistics of each column in the place of these. Whether the bytes are their pieces; if
+/// not, these may say anything.
 fn read_all(
     alloc: Global,
     columns: &[ColumnType],
@@ -69,8 +70,8 @@ fn cut_piece(bytes: &[u8]) -> Option<(&[u8], &[u8])>
     Some(rest.split_at(length))
 }
 
-/// Puts the statistics of a column in the place of these, which spares the moves of a result.
-/// Whether the bytes are their encoding; if not, these may say anything.
+/// Puts what a piece says of a column in the place of these, which spares the moves of a result.
+/// Whether it says anything; if not, these may.
 fn read_column(
     alloc: Global,
     column: ColumnType,
@@ -80,7 +81,7 @@ fn read_column(
     ensures { IfOk result (λ is. (if is then Some (known statistics.new) else None) ≡
         statistics_in column bytes.now) }
 {
-    match decode_statistics_into(alloc, &dtype_of(column), bytes, statistics) {
+    match decode_piece_into(alloc, &dtype_of(column), bytes, statistics) {
         Ok(()) => Ok(true),
         Err(error) => match error {
             StatisticsError::OutOfMemory => Err(AllocError),

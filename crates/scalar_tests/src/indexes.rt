@@ -5,12 +5,11 @@ ghost use Rattle.std.specs.Io.KnownBytes.{Appends};
 ghost use Rattle.vortex_filter.specs.Formula.{formula};
 ghost use Rattle.zone_index.specs.Sinks.{written_of};
 ghost use Rattle.zone_index.specs.Encoding.{FitsEncoding, IndexValue, index_encoding, index_value, wanted_of};
-ghost use Rattle.statistics_bytes.specs.Encoding.{encoding};
-ghost use Rattle.record_search.specs.Searched.{IsRowIndex, matches_record, records_under, rows_alone};
+ghost use Rattle.record_search.specs.Searched.{IsRowIndex, matches_record, records_under};
 ghost use Rattle.record_rows.specs.declared.schema.Schema.{Schema};
 
 use record_search::laws::{indexes_are_read_back, indexes_find_all};
-use record_search::{RowDescriber, RowFilter, RowsAlone, find_rows, index_rows, named_columns};
+use record_search::{RowDescriber, RowFilter, find_rows, index_rows, named_columns};
 use std::alloc::Global;
 use std::io::BufRead;
 use zone_index::{
@@ -40,10 +39,10 @@ pub fn there_and_back(
 fn read_wanted(alloc: Global, bytes: &[u8], wanted: &[bool]) -> Result<Index, ReadError>
     ensures { IfOk result (λ kept. (n : ℕ) (x : IndexValue) (pieces : List (List (List ℕ)))
         → FitsEncoding n x pieces → bytes.now ≡ index_encoding n x pieces
-        → index_value kept ≡ wanted_of wanted.now (λ rows. encoding (rows_alone rows)) x pieces) }
+        → index_value kept ≡ wanted_of wanted.now x pieces) }
 {
     let (root, blocks) = read_root(alloc, bytes)?;
-    read_blocks(root, blocks, wanted, &RowsAlone)
+    read_blocks(root, blocks, wanted)
 }
 
 /// How many records a zone has.

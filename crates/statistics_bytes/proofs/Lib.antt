@@ -4,6 +4,7 @@ pub mod FlagLaws
 pub mod EncodingLaws
 pub mod HeadLaws
 pub mod KeyBounds
+pub mod PieceSteps
 pub mod ReadSteps
 pub mod WriteSteps
 pub mod WrongStarts

@@ -9,6 +9,7 @@ use Rattle.vortex_statistics.specs.Merging.{nothing}
 use Rattle.vortex_statistics.specs.Statistics.{Known, KnownBound}
 use Rattle.statistics_bytes.specs.Encoding.{flags, encoding}
 use Rattle.statistics_bytes.specs.EncodingAnswers.{retyped}
+use Rattle.statistics_bytes.specs.Pieces.{Says, nothing_known}
 
 -- an i32, and a bound
 abbrev number : ℕ → Cell
@@ -49,3 +50,7 @@ unbounded_written = refl
 
 one_bound_of_two : flags (record { row_count = 2; null_count = None; lower = roughly (number 1); upper = exactly (number 4) }) ≡ 26
 one_bound_of_two = refl
+
+-- an empty piece says nothing, whatever the type
+nothing_said : Says (utf8_type NonNullable) [] nothing_known
+nothing_said = refl

@@ -5,8 +5,10 @@
 
 mod flags;
 pub mod laws;
+mod pieces;
 mod reading;
 mod writing;
 
+pub use pieces::decode_piece_into;
 pub use reading::{decode_statistics, decode_statistics_into};
 pub use writing::append_statistics;

@@ -7,6 +7,7 @@
 mod answers;
 mod key_inputs;
 mod keys;
+mod pieces;
 mod plain_values;
 mod read;
 mod same;
@@ -21,4 +22,5 @@ pub use same::same_statistics;
 pub fn answer(line: &mut Line<'_>) {
     keys::answer(line);
     statistics::answer(line);
+    pieces::answer(line);
 }

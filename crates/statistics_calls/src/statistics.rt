@@ -87,10 +87,10 @@ pub fn answer(line: &mut Line<'_>) {
 }
 
 /// An answer, or the refusal that all calls have.
-type StatisticsResult = Result<StatisticsAnswer, VortexError>;
+pub type StatisticsResult = Result<StatisticsAnswer, VortexError>;
 
 /// Statistics of a column of this type, or their refusal. `OutOfMemory` is that of all calls.
-fn column_answer(
+pub fn column_answer(
     dtype: DType,
     made: Result<ColumnStatistics, StatisticsError>,
 ) -> StatisticsResult {

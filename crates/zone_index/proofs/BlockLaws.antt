@@ -52,10 +52,10 @@ dealt_takes {A} give (x ∷ xs) bytes ys fits e =
 
 -- ---- what is read has pieces
 
-added_found : (wanted : Bool) (unread : ℕ → List ℕ) (b : BlockValue) (zs ys : List ZoneValue) (block : List ℕ) → IsBytes block → added_at wanted unread b zs block ≡ Ok ys → AddsBlock wanted unread b block zs ys
+added_found : (wanted : Bool) (b : BlockValue) (zs ys : List ZoneValue) (block : List ℕ) → IsBytes block → added_at wanted b zs block ≡ Ok ys → AddsBlock wanted b block zs ys
 unfolding added_at
-added_found false unread b zs ys block fits e = sym (ok_is (with_unread unread zs) ys e)
-added_found true unread b zs ys block fits e =
+added_found false b zs ys block fits e = sym (ok_is (with_unread zs) ys e)
+added_found true b zs ys block fits e =
     let g = by_test (bytes_eq (sha256 block) b.digest) (dealt_at with_statistics zs block) e in
     let d = dealt_takes with_statistics zs block ys fits g.1 in
     let same : sha256 block ≡ b.digest = (bytes_eq-Decides (sha256 block) b.digest).0 g.0 in
@@ -65,16 +65,16 @@ added_found true unread b zs ys block fits e =
     by_test true r h = (refl, h)
     by_test false r h = absurd cc
 
-pub blocks_found : (wanted : List Bool) (unread : ℕ → List ℕ) (k : ℕ) (bs : List BlockValue) (zs ys : List ZoneValue) (bytes : List ℕ) → IsBytes bytes → blocks_at wanted unread k bs zs bytes ≡ Ok ys → AddBlocks wanted unread k bs bytes zs ys
+pub blocks_found : (wanted : List Bool) (k : ℕ) (bs : List BlockValue) (zs ys : List ZoneValue) (bytes : List ℕ) → IsBytes bytes → blocks_at wanted k bs zs bytes ≡ Ok ys → AddBlocks wanted k bs bytes zs ys
 unfolding blocks_at
-blocks_found wanted unread k [] zs ys bytes fits e =
+blocks_found wanted k [] zs ys bytes fits e =
     let g = guard_met (eqb (length bytes) 0) Trailing zs ys e in
     (nil_from_length bytes (eqb-true _ _ g.0), sym g.1)
-blocks_found wanted unread k (b ∷ bs) zs ys bytes fits e =
-    let a = bind_ok (front_at b.length bytes) (λ block. added_at (is_wanted wanted k) unread b zs block.0 >>= λ more. blocks_at wanted unread (suc k) bs more block.1) ys e in
-    let m = bind_ok (added_at (is_wanted wanted k) unread b zs a.0.0) (λ more. blocks_at wanted unread (suc k) bs more a.0.1) ys a.2 in
+blocks_found wanted k (b ∷ bs) zs ys bytes fits e =
+    let a = bind_ok (front_at b.length bytes) (λ block. added_at (is_wanted wanted k) b zs block.0 >>= λ more. blocks_at wanted (suc k) bs more block.1) ys e in
+    let m = bind_ok (added_at (is_wanted wanted k) b zs a.0.0) (λ more. blocks_at wanted (suc k) bs more a.0.1) ys a.2 in
     let t = front_takes b.length bytes a.0.0 a.0.1 fits a.1 in
-    (a.0.0, a.0.1, m.0, t.0.parts, t.1, added_found (is_wanted wanted k) unread b zs m.0 a.0.0 t.2 m.1, blocks_found wanted unread (suc k) bs m.0 ys a.0.1 t.0.rest_fits m.2)
+    (a.0.0, a.0.1, m.0, t.0.parts, t.1, added_found (is_wanted wanted k) b zs m.0 a.0.0 t.2 m.1, blocks_found wanted (suc k) bs m.0 ys a.0.1 t.0.rest_fits m.2)
 
 -- ---- what was written is read
 
@@ -100,42 +100,42 @@ others_are n ([] ∷ pieces) h = absurd (omega (arith, h.0.count))
 others_are n ((p ∷ ps) ∷ pieces) h = (record { count = omega (arith, h.0.count); fit = h.0.fit.1 }, others_are n pieces h.1)
 
 -- the zones with their wanted pieces, from this place on
-abbrev more : List Bool → (ℕ → List ℕ) → ℕ → List ZoneValue → List (List (List ℕ)) → List ZoneValue
-more wanted unread k [] pieces = []
-more wanted unread k (z ∷ zs) [] = []
-more wanted unread k (z ∷ zs) (ps ∷ pieces) = with_statistics z (flat_map bytes_encoding (wanted_pieces wanted k (unread z.rows) ps)) ∷ more wanted unread k zs pieces
+abbrev more : List Bool → ℕ → List ZoneValue → List (List (List ℕ)) → List ZoneValue
+more wanted k [] pieces = []
+more wanted k (z ∷ zs) [] = []
+more wanted k (z ∷ zs) (ps ∷ pieces) = with_statistics z (flat_map bytes_encoding (wanted_pieces wanted k ps)) ∷ more wanted k zs pieces
 
-more_none : (wanted : List Bool) (unread : ℕ → List ℕ) (k : ℕ) (zs : List ZoneValue) (pieces : List (List (List ℕ))) → length pieces ≡ length zs → AllByRecursion (Row 0) pieces → zs ≡ more wanted unread k zs pieces
-more_none wanted unread k [] pieces same h = refl
-more_none wanted unread k (z ∷ zs) [] same h = absurd (omega (arith, same))
-more_none wanted unread k (z ∷ zs) ([] ∷ pieces) same h =
-    ap₂ (λ (s : List ℕ) (l : List ZoneValue). record z { statistics = s } ∷ l) (sym (append-nil z.statistics)) (more_none wanted unread k zs pieces (omega (arith, same)) h.1)
-more_none wanted unread k (z ∷ zs) ((p ∷ ps) ∷ pieces) same h = absurd (omega (arith, h.0.count))
+more_none : (wanted : List Bool) (k : ℕ) (zs : List ZoneValue) (pieces : List (List (List ℕ))) → length pieces ≡ length zs → AllByRecursion (Row 0) pieces → zs ≡ more wanted k zs pieces
+more_none wanted k [] pieces same h = refl
+more_none wanted k (z ∷ zs) [] same h = absurd (omega (arith, same))
+more_none wanted k (z ∷ zs) ([] ∷ pieces) same h =
+    ap₂ (λ (s : List ℕ) (l : List ZoneValue). record z { statistics = s } ∷ l) (sym (append-nil z.statistics)) (more_none wanted k zs pieces (omega (arith, same)) h.1)
+more_none wanted k (z ∷ zs) ((p ∷ ps) ∷ pieces) same h = absurd (omega (arith, h.0.count))
 
 -- a zone with one piece and then the others
 one_more : (z : ZoneValue) (piece : List ℕ) (ps : List (List ℕ)) → with_statistics (with_statistics z (bytes_encoding piece)) (flat_map bytes_encoding ps) ≡ with_statistics z (flat_map bytes_encoding (piece ∷ ps))
 one_more z piece ps = ap (λ (s : List ℕ). record z { statistics = s }) (append_assoc z.statistics (bytes_encoding piece) (flat_map bytes_encoding ps) ∙ ap (λ (l : List ℕ). z.statistics ++ l) (sym (flat_map-cons bytes_encoding piece ps)))
 
-more_wanted : (wanted : List Bool) (unread : ℕ → List ℕ) (k n : ℕ) (zs : List ZoneValue) (pieces : List (List (List ℕ))) → is_wanted wanted k ≡ true → length pieces ≡ length zs → AllByRecursion (Row (suc n)) pieces
-    → more wanted unread (suc k) (dealt with_statistics (firsts pieces) zs) (others pieces) ≡ more wanted unread k zs pieces
-more_wanted wanted unread k n [] [] is same h = refl
-more_wanted wanted unread k n [] (ps ∷ pieces) is same h = absurd (omega (arith, same))
-more_wanted wanted unread k n (z ∷ zs) [] is same h = absurd (omega (arith, same))
-more_wanted wanted unread k n (z ∷ zs) ([] ∷ pieces) is same h = absurd (omega (arith, h.0.count))
-more_wanted wanted unread k n (z ∷ zs) ((p ∷ ps) ∷ pieces) is same h =
-    ap₂ (λ (y : ZoneValue) (l : List ZoneValue). y ∷ l) (one_more z p (wanted_pieces wanted (suc k) (unread z.rows) ps) ∙ ap (λ (b : Bool). with_statistics z (flat_map bytes_encoding (cond b p (unread z.rows) ∷ wanted_pieces wanted (suc k) (unread z.rows) ps))) (sym is))
-    (more_wanted wanted unread k n zs pieces is (omega (arith, same)) h.1)
+more_wanted : (wanted : List Bool) (k n : ℕ) (zs : List ZoneValue) (pieces : List (List (List ℕ))) → is_wanted wanted k ≡ true → length pieces ≡ length zs → AllByRecursion (Row (suc n)) pieces
+    → more wanted (suc k) (dealt with_statistics (firsts pieces) zs) (others pieces) ≡ more wanted k zs pieces
+more_wanted wanted k n [] [] is same h = refl
+more_wanted wanted k n [] (ps ∷ pieces) is same h = absurd (omega (arith, same))
+more_wanted wanted k n (z ∷ zs) [] is same h = absurd (omega (arith, same))
+more_wanted wanted k n (z ∷ zs) ([] ∷ pieces) is same h = absurd (omega (arith, h.0.count))
+more_wanted wanted k n (z ∷ zs) ((p ∷ ps) ∷ pieces) is same h =
+    ap₂ (λ (y : ZoneValue) (l : List ZoneValue). y ∷ l) (one_more z p (wanted_pieces wanted (suc k) ps) ∙ ap (λ (b : Bool). with_statistics z (flat_map bytes_encoding (cond b p [] ∷ wanted_pieces wanted (suc k) ps))) (sym is))
+    (more_wanted wanted k n zs pieces is (omega (arith, same)) h.1)
 
-more_unread : (wanted : List Bool) (unread : ℕ → List ℕ) (k n : ℕ) (zs : List ZoneValue) (pieces : List (List (List ℕ))) → is_wanted wanted k ≡ false → length pieces ≡ length zs → AllByRecursion (Row (suc n)) pieces
-    → more wanted unread (suc k) (with_unread unread zs) (others pieces) ≡ more wanted unread k zs pieces
-more_unread wanted unread k n [] [] is same h = refl
-more_unread wanted unread k n [] (ps ∷ pieces) is same h = absurd (omega (arith, same))
-more_unread wanted unread k n (z ∷ zs) [] is same h = absurd (omega (arith, same))
-more_unread wanted unread k n (z ∷ zs) ([] ∷ pieces) is same h = absurd (omega (arith, h.0.count))
-more_unread wanted unread k n (z ∷ zs) ((p ∷ ps) ∷ pieces) is same h =
+more_unread : (wanted : List Bool) (k n : ℕ) (zs : List ZoneValue) (pieces : List (List (List ℕ))) → is_wanted wanted k ≡ false → length pieces ≡ length zs → AllByRecursion (Row (suc n)) pieces
+    → more wanted (suc k) (with_unread zs) (others pieces) ≡ more wanted k zs pieces
+more_unread wanted k n [] [] is same h = refl
+more_unread wanted k n [] (ps ∷ pieces) is same h = absurd (omega (arith, same))
+more_unread wanted k n (z ∷ zs) [] is same h = absurd (omega (arith, same))
+more_unread wanted k n (z ∷ zs) ([] ∷ pieces) is same h = absurd (omega (arith, h.0.count))
+more_unread wanted k n (z ∷ zs) ((p ∷ ps) ∷ pieces) is same h =
     ap₂ (λ (y : ZoneValue) (l : List ZoneValue). y ∷ l)
-    (one_more z (unread z.rows) (wanted_pieces wanted (suc k) (unread z.rows) ps) ∙ ap (λ (b : Bool). with_statistics z (flat_map bytes_encoding (cond b p (unread z.rows) ∷ wanted_pieces wanted (suc k) (unread z.rows) ps))) (sym is))
-    (more_unread wanted unread k n zs pieces is (omega (arith, same)) h.1)
+    (one_more z [] (wanted_pieces wanted (suc k) ps) ∙ ap (λ (b : Bool). with_statistics z (flat_map bytes_encoding (cond b p [] ∷ wanted_pieces wanted (suc k) ps))) (sym is))
+    (more_unread wanted k n zs pieces is (omega (arith, same)) h.1)
 
 dealt_long : {A : Type 0} (give : A → List ℕ → A) (ps : List (List ℕ)) (xs : List A) → length ps ≡ length xs → length (dealt give ps xs) ≡ length xs
 dealt_long give [] [] same = refl
@@ -144,29 +144,29 @@ dealt_long give (p ∷ ps) [] same = absurd (omega (arith, same))
 dealt_long give (p ∷ ps) (x ∷ xs) same = ap suc (dealt_long give ps xs (omega (arith, same)))
 
 -- the next block, if the others are read
-block_again : (wanted : List Bool) (unread : ℕ → List ℕ) (k n : ℕ) (zs : List ZoneValue) (pieces : List (List (List ℕ))) (b : Bool) → is_wanted wanted k ≡ b → length pieces ≡ length zs → AllByRecursion (Row (suc n)) pieces
-    → ((ys : List ZoneValue) → length (others pieces) ≡ length ys → blocks_at wanted unread (suc k) (map block_of (blocks_of n (others pieces))) ys (concat (blocks_of n (others pieces))) ≡ Ok (more wanted unread (suc k) ys (others pieces)))
-    → (added_at b unread (block_of (flat_map bytes_encoding (firsts pieces))) zs (flat_map bytes_encoding (firsts pieces)) >>= λ ys. blocks_at wanted unread (suc k) (map block_of (blocks_of n (others pieces))) ys (concat (blocks_of n (others pieces)))) ≡ Ok (more wanted unread k zs pieces)
+block_again : (wanted : List Bool) (k n : ℕ) (zs : List ZoneValue) (pieces : List (List (List ℕ))) (b : Bool) → is_wanted wanted k ≡ b → length pieces ≡ length zs → AllByRecursion (Row (suc n)) pieces
+    → ((ys : List ZoneValue) → length (others pieces) ≡ length ys → blocks_at wanted (suc k) (map block_of (blocks_of n (others pieces))) ys (concat (blocks_of n (others pieces))) ≡ Ok (more wanted (suc k) ys (others pieces)))
+    → (added_at b (block_of (flat_map bytes_encoding (firsts pieces))) zs (flat_map bytes_encoding (firsts pieces)) >>= λ ys. blocks_at wanted (suc k) (map block_of (blocks_of n (others pieces))) ys (concat (blocks_of n (others pieces)))) ≡ Ok (more wanted k zs pieces)
 unfolding added_at
-block_again wanted unread k n zs pieces true is same h next =
+block_again wanted k n zs pieces true is same h next =
     let column = firsts pieces in
     let digest = sha256 (flat_map bytes_encoding column) in
     let count : length column ≡ length zs = length-map pieces (λ ps. slice_index_or ps 0 []) ∙ same in
     let equal : bytes_eq digest digest ≡ true = (bytes_eq-Decides digest digest).1 refl in
     let rest : length (others pieces) ≡ length (dealt with_statistics column zs) = length-map pieces (λ ps. drop 1 ps) ∙ same ∙ sym (dealt_long with_statistics column zs count) in
-    rw (equal, dealt_again with_statistics zs column count (first_fit n pieces h)) (next (dealt with_statistics column zs) rest) ∙ ap (λ (l : List ZoneValue). Ok l) (more_wanted wanted unread k n zs pieces is same h)
-block_again wanted unread k n zs pieces false is same h next =
-    let rest : length (others pieces) ≡ length (with_unread unread zs) = length-map pieces (λ ps. drop 1 ps) ∙ same ∙ sym (length-map zs (λ z. with_statistics z (bytes_encoding (unread z.rows)))) in
-    next (with_unread unread zs) rest ∙ ap (λ (l : List ZoneValue). Ok l) (more_unread wanted unread k n zs pieces is same h)
+    rw (equal, dealt_again with_statistics zs column count (first_fit n pieces h)) (next (dealt with_statistics column zs) rest) ∙ ap (λ (l : List ZoneValue). Ok l) (more_wanted wanted k n zs pieces is same h)
+block_again wanted k n zs pieces false is same h next =
+    let rest : length (others pieces) ≡ length (with_unread zs) = length-map pieces (λ ps. drop 1 ps) ∙ same ∙ sym (length-map zs (λ z. with_statistics z (bytes_encoding []))) in
+    next (with_unread zs) rest ∙ ap (λ (l : List ZoneValue). Ok l) (more_unread wanted k n zs pieces is same h)
 
-blocks_again : (wanted : List Bool) (unread : ℕ → List ℕ) (k n : ℕ) (zs : List ZoneValue) (pieces : List (List (List ℕ))) → length pieces ≡ length zs → AllByRecursion (Row n) pieces
-    → blocks_at wanted unread k (map block_of (blocks_of n pieces)) zs (concat (blocks_of n pieces)) ≡ Ok (more wanted unread k zs pieces)
+blocks_again : (wanted : List Bool) (k n : ℕ) (zs : List ZoneValue) (pieces : List (List (List ℕ))) → length pieces ≡ length zs → AllByRecursion (Row n) pieces
+    → blocks_at wanted k (map block_of (blocks_of n pieces)) zs (concat (blocks_of n pieces)) ≡ Ok (more wanted k zs pieces)
 unfolding blocks_at
-blocks_again wanted unread k zero zs pieces same h = ap (λ (l : List ZoneValue). Ok l) (more_none wanted unread k zs pieces same h)
-blocks_again wanted unread k (suc n) zs pieces same h =
+blocks_again wanted k zero zs pieces same h = ap (λ (l : List ZoneValue). Ok l) (more_none wanted k zs pieces same h)
+blocks_again wanted k (suc n) zs pieces same h =
     let block = flat_map bytes_encoding (firsts pieces) in
     let later = blocks_of n (others pieces) in
-    rw (front_again (length block) block (concat later) refl) (block_again wanted unread k n zs pieces (is_wanted wanted k) refl same h (λ ys long. blocks_again wanted unread (suc k) n ys (others pieces) long (others_are n pieces h)))
+    rw (front_again (length block) block (concat later) refl) (block_again wanted k n zs pieces (is_wanted wanted k) refl same h (λ ys long. blocks_again wanted (suc k) n ys (others pieces) long (others_are n pieces h)))
 
 -- ---- by the pieces of an index
 
@@ -178,16 +178,16 @@ rows_of n (z ∷ zs) (ps ∷ pieces) h =
     let later = rows_of n zs pieces h.1 in
     (ap suc later.0, (record { count = h.0.count; fit = h.0.fit }, later.1))
 
-more_bare : (wanted : List Bool) (unread : ℕ → List ℕ) (zs : List ZoneValue) (pieces : List (List (List ℕ))) → more wanted unread 0 (map without_statistics zs) pieces ≡ wanted_zones wanted unread zs pieces
-more_bare wanted unread [] pieces = refl
-more_bare wanted unread (z ∷ zs) [] = refl
-more_bare wanted unread (z ∷ zs) (ps ∷ pieces) = ap (λ (l : List ZoneValue). record z { statistics = flat_map bytes_encoding (wanted_pieces wanted 0 (unread z.rows) ps) } ∷ l) (more_bare wanted unread zs pieces)
+more_bare : (wanted : List Bool) (zs : List ZoneValue) (pieces : List (List (List ℕ))) → more wanted 0 (map without_statistics zs) pieces ≡ wanted_zones wanted zs pieces
+more_bare wanted [] pieces = refl
+more_bare wanted (z ∷ zs) [] = refl
+more_bare wanted (z ∷ zs) (ps ∷ pieces) = ap (λ (l : List ZoneValue). record z { statistics = flat_map bytes_encoding (wanted_pieces wanted 0 ps) } ∷ l) (more_bare wanted zs pieces)
 
-pub wanted_again : (wanted : List Bool) (unread : ℕ → List ℕ) (n : ℕ) (zs : List ZoneValue) (pieces : List (List (List ℕ))) → HavePieces n zs pieces
-    → blocks_at wanted unread 0 (map block_of (blocks_of n pieces)) (map without_statistics zs) (concat (blocks_of n pieces)) ≡ Ok (wanted_zones wanted unread zs pieces)
-wanted_again wanted unread n zs pieces have =
+pub wanted_again : (wanted : List Bool) (n : ℕ) (zs : List ZoneValue) (pieces : List (List (List ℕ))) → HavePieces n zs pieces
+    → blocks_at wanted 0 (map block_of (blocks_of n pieces)) (map without_statistics zs) (concat (blocks_of n pieces)) ≡ Ok (wanted_zones wanted zs pieces)
+wanted_again wanted n zs pieces have =
     let rows = rows_of n zs pieces have in
-    blocks_again wanted unread 0 n (map without_statistics zs) pieces rows.0 rows.1 ∙ ap (λ (l : List ZoneValue). Ok l) (more_bare wanted unread zs pieces)
+    blocks_again wanted 0 n (map without_statistics zs) pieces rows.0 rows.1 ∙ ap (λ (l : List ZoneValue). Ok l) (more_bare wanted zs pieces)
 
 pub columns_long : (n : ℕ) (pieces : List (List (List ℕ))) → length (blocks_of n pieces) ≡ n
 columns_long zero pieces = refl
@@ -195,17 +195,17 @@ columns_long (suc n) pieces = ap suc (columns_long n (map (λ ps. drop 1 ps) pie
 
 -- ---- what a root and its blocks give
 
-pub index_found : (wanted : List Bool) (unread : ℕ → List ℕ) (root : RootValue) (bytes : List ℕ) (r : Result Index ReadError) → IsBytes bytes → Gives index_value r (index_at wanted unread root bytes) → IfOk r (λ index. AddBlocks wanted unread 0 root.blocks bytes root.index.zones (zone_values index.zones.items))
-index_found wanted unread root bytes (Err e) fits given = tt
-index_found wanted unread root bytes (Ok index) fits given =
+pub index_found : (wanted : List Bool) (root : RootValue) (bytes : List ℕ) (r : Result Index ReadError) → IsBytes bytes → Gives index_value r (index_at wanted root bytes) → IfOk r (λ index. AddBlocks wanted 0 root.blocks bytes root.index.zones (zone_values index.zones.items))
+index_found wanted root bytes (Err e) fits given = tt
+index_found wanted root bytes (Ok index) fits given =
     let made : List ZoneValue → IndexValue = λ (zones : List ZoneValue). record (root.index) { zones = zones } in
-    let a = bind_ok (blocks_at wanted unread 0 root.blocks root.index.zones bytes) (λ zones. Ok (made zones)) (index_value index) given in
+    let a = bind_ok (blocks_at wanted 0 root.blocks root.index.zones bytes) (λ zones. Ok (made zones)) (index_value index) given in
     let same : a.0 ≡ zone_values index.zones.items = ap (λ (x : IndexValue). x.zones) (ok_is (made a.0) (index_value index) a.2) in
-    subst (λ (zs : List ZoneValue). AddBlocks wanted unread 0 root.blocks bytes root.index.zones zs) same (blocks_found wanted unread 0 root.blocks root.index.zones a.0 bytes fits a.1)
+    subst (λ (zs : List ZoneValue). AddBlocks wanted 0 root.blocks bytes root.index.zones zs) same (blocks_found wanted 0 root.blocks root.index.zones a.0 bytes fits a.1)
 
-pub index_again : (wanted : List Bool) (unread : ℕ → List ℕ) (n : ℕ) (x : IndexValue) (pieces : List (List (List ℕ))) (root : RootValue) (bytes : List ℕ) (r : Result Index ReadError) → HavePieces n x.zones pieces → root ≡ root_of x (blocks_of n pieces) → bytes ≡ concat (blocks_of n pieces)
-    → Gives index_value r (index_at wanted unread root bytes) → Gives index_value r (Ok (wanted_of wanted unread x pieces))
-index_again wanted unread n x pieces root bytes r have same all given =
+pub index_again : (wanted : List Bool) (n : ℕ) (x : IndexValue) (pieces : List (List (List ℕ))) (root : RootValue) (bytes : List ℕ) (r : Result Index ReadError) → HavePieces n x.zones pieces → root ≡ root_of x (blocks_of n pieces) → bytes ≡ concat (blocks_of n pieces)
+    → Gives index_value r (index_at wanted root bytes) → Gives index_value r (Ok (wanted_of wanted x pieces))
+index_again wanted n x pieces root bytes r have same all given =
     let blocks = blocks_of n pieces in
-    let written : index_at wanted unread (root_of x blocks) (concat blocks) ≡ Ok (wanted_of wanted unread x pieces) = rw (wanted_again wanted unread n x.zones pieces have) refl in
-    subst (λ (read : Result IndexValue EncodingError). Gives index_value r read) (ap₂ (λ (q : RootValue) (b : List ℕ). index_at wanted unread q b) same all ∙ written) given
+    let written : index_at wanted (root_of x blocks) (concat blocks) ≡ Ok (wanted_of wanted x pieces) = rw (wanted_again wanted n x.zones pieces have) refl in
+    subst (λ (read : Result IndexValue EncodingError). Gives index_value r read) (ap₂ (λ (q : RootValue) (b : List ℕ). index_at wanted q b) same all ∙ written) given

@@ -139,48 +139,48 @@ mapped_done {A} {B} view h all now i past so_far =
 -- ---- blocks
 
 -- what is still added gives what all does
-abbrev pub AreAddedSoFar : List Bool → (ℕ → List ℕ) → List Block → List ZoneValue → List ℕ → ℕ → List ZoneValue → List ℕ → Type 0
-AreAddedSoFar wanted unread blocks initial bytes k now rest = blocks_at wanted unread k (map block_value (drop k blocks)) now rest ≡ blocks_at wanted unread 0 (map block_value blocks) initial bytes
+abbrev pub AreAddedSoFar : List Bool → List Block → List ZoneValue → List ℕ → ℕ → List ZoneValue → List ℕ → Type 0
+AreAddedSoFar wanted blocks initial bytes k now rest = blocks_at wanted k (map block_value (drop k blocks)) now rest ≡ blocks_at wanted 0 (map block_value blocks) initial bytes
 
 drop_here : {A : Type 0} (xs : List A) (i : ℕ) (x : A) → i < length xs → x ≡ get_or xs i x → drop i xs ≡ x ∷ drop (i + 1) xs
 drop_here {A} xs i x inside is = (is_set xs i x x inside).here ∙ ap (λ (y : A). y ∷ drop (i + 1) xs) (sym is)
 
 -- the next block
-opened : (wanted : List Bool) (unread : ℕ → List ℕ) (blocks : List Block) (k : ℕ) (now : List ZoneValue) (rest : List ℕ) (b : Block) → k < length blocks → b ≡ get_or blocks k b
-    → blocks_at wanted unread k (map block_value (drop k blocks)) now rest ≡ (front_at b.length rest >>= λ block. added_at (is_wanted wanted k) unread (block_value b) now block.0 >>= λ more. blocks_at wanted unread (k + 1) (map block_value (drop (k + 1) blocks)) more block.1)
+opened : (wanted : List Bool) (blocks : List Block) (k : ℕ) (now : List ZoneValue) (rest : List ℕ) (b : Block) → k < length blocks → b ≡ get_or blocks k b
+    → blocks_at wanted k (map block_value (drop k blocks)) now rest ≡ (front_at b.length rest >>= λ block. added_at (is_wanted wanted k) (block_value b) now block.0 >>= λ more. blocks_at wanted (k + 1) (map block_value (drop (k + 1) blocks)) more block.1)
 unfolding blocks_at
-opened wanted unread blocks k now rest b inside is = ap (λ (l : List Block). blocks_at wanted unread k (map block_value l) now rest) (drop_here blocks k b inside is) ∙ rw add-one refl
+opened wanted blocks k now rest b inside is = ap (λ (l : List Block). blocks_at wanted k (map block_value l) now rest) (drop_here blocks k b inside is) ∙ rw add-one refl
 
-pub added_more : (wanted : List Bool) (unread : ℕ → List ℕ) (blocks : List Block) (initial now new : List ZoneValue) (bytes rest front after : List ℕ) (k : ℕ) (b : Block) (w : Bool) → k < length blocks → b ≡ get_or blocks k b → front_at b.length rest ≡ Ok (front, after) → w ≡ is_wanted wanted k
-    → added_at w unread (block_value b) now front ≡ Ok new → AreAddedSoFar wanted unread blocks initial bytes k now rest → AreAddedSoFar wanted unread blocks initial bytes (k + 1) new after
-added_more wanted unread blocks initial now new bytes rest front after k b w inside is cut same added so_far =
-    let added' : added_at (is_wanted wanted k) unread (block_value b) now front ≡ Ok new = subst (λ (t : Bool). added_at t unread (block_value b) now front ≡ Ok new) same added in
-    let one : (front_at b.length rest >>= λ block. added_at (is_wanted wanted k) unread (block_value b) now block.0 >>= λ more. blocks_at wanted unread (k + 1) (map block_value (drop (k + 1) blocks)) more block.1) ≡ blocks_at wanted unread (k + 1) (map block_value (drop (k + 1) blocks)) new after = rw (cut, added') refl in
-    sym one ∙ sym (opened wanted unread blocks k now rest b inside is) ∙ so_far
+pub added_more : (wanted : List Bool) (blocks : List Block) (initial now new : List ZoneValue) (bytes rest front after : List ℕ) (k : ℕ) (b : Block) (w : Bool) → k < length blocks → b ≡ get_or blocks k b → front_at b.length rest ≡ Ok (front, after) → w ≡ is_wanted wanted k
+    → added_at w (block_value b) now front ≡ Ok new → AreAddedSoFar wanted blocks initial bytes k now rest → AreAddedSoFar wanted blocks initial bytes (k + 1) new after
+added_more wanted blocks initial now new bytes rest front after k b w inside is cut same added so_far =
+    let added' : added_at (is_wanted wanted k) (block_value b) now front ≡ Ok new = subst (λ (t : Bool). added_at t (block_value b) now front ≡ Ok new) same added in
+    let one : (front_at b.length rest >>= λ block. added_at (is_wanted wanted k) (block_value b) now block.0 >>= λ more. blocks_at wanted (k + 1) (map block_value (drop (k + 1) blocks)) more block.1) ≡ blocks_at wanted (k + 1) (map block_value (drop (k + 1) blocks)) new after = rw (cut, added') refl in
+    sym one ∙ sym (opened wanted blocks k now rest b inside is) ∙ so_far
 
-pub front_fails : (wanted : List Bool) (unread : ℕ → List ℕ) (blocks : List Block) (initial now : List ZoneValue) (bytes rest : List ℕ) (k : ℕ) (b : Block) (e : ReadError) → k < length blocks → b ≡ get_or blocks k b → Fails e (front_at b.length rest)
-    → AreAddedSoFar wanted unread blocks initial bytes k now rest → Fails e (blocks_at wanted unread 0 (map block_value blocks) initial bytes)
-front_fails wanted unread blocks initial now bytes rest k b errors.Memory inside is fails so_far = tt
-front_fails wanted unread blocks initial now bytes rest k b (errors.Fault f) inside is fails so_far =
-    let one : (front_at b.length rest >>= λ block. added_at (is_wanted wanted k) unread (block_value b) now block.0 >>= λ more. blocks_at wanted unread (k + 1) (map block_value (drop (k + 1) blocks)) more block.1) ≡ Err f = rw fails refl in
-    sym so_far ∙ opened wanted unread blocks k now rest b inside is ∙ one
+pub front_fails : (wanted : List Bool) (blocks : List Block) (initial now : List ZoneValue) (bytes rest : List ℕ) (k : ℕ) (b : Block) (e : ReadError) → k < length blocks → b ≡ get_or blocks k b → Fails e (front_at b.length rest)
+    → AreAddedSoFar wanted blocks initial bytes k now rest → Fails e (blocks_at wanted 0 (map block_value blocks) initial bytes)
+front_fails wanted blocks initial now bytes rest k b errors.Memory inside is fails so_far = tt
+front_fails wanted blocks initial now bytes rest k b (errors.Fault f) inside is fails so_far =
+    let one : (front_at b.length rest >>= λ block. added_at (is_wanted wanted k) (block_value b) now block.0 >>= λ more. blocks_at wanted (k + 1) (map block_value (drop (k + 1) blocks)) more block.1) ≡ Err f = rw fails refl in
+    sym so_far ∙ opened wanted blocks k now rest b inside is ∙ one
 
-pub added_fails : (wanted : List Bool) (unread : ℕ → List ℕ) (blocks : List Block) (initial now : List ZoneValue) (bytes rest front after : List ℕ) (k : ℕ) (b : Block) (w : Bool) (e : ReadError) → k < length blocks → b ≡ get_or blocks k b → front_at b.length rest ≡ Ok (front, after) → w ≡ is_wanted wanted k
-    → Fails e (added_at w unread (block_value b) now front) → AreAddedSoFar wanted unread blocks initial bytes k now rest → Fails e (blocks_at wanted unread 0 (map block_value blocks) initial bytes)
-added_fails wanted unread blocks initial now bytes rest front after k b w errors.Memory inside is cut same fails so_far = tt
-added_fails wanted unread blocks initial now bytes rest front after k b w (errors.Fault f) inside is cut same fails so_far =
-    let fails' : added_at (is_wanted wanted k) unread (block_value b) now front ≡ Err f = subst (λ (t : Bool). added_at t unread (block_value b) now front ≡ Err f) same fails in
-    let one : (front_at b.length rest >>= λ block. added_at (is_wanted wanted k) unread (block_value b) now block.0 >>= λ more. blocks_at wanted unread (k + 1) (map block_value (drop (k + 1) blocks)) more block.1) ≡ Err f = rw (cut, fails') refl in
-    sym so_far ∙ opened wanted unread blocks k now rest b inside is ∙ one
+pub added_fails : (wanted : List Bool) (blocks : List Block) (initial now : List ZoneValue) (bytes rest front after : List ℕ) (k : ℕ) (b : Block) (w : Bool) (e : ReadError) → k < length blocks → b ≡ get_or blocks k b → front_at b.length rest ≡ Ok (front, after) → w ≡ is_wanted wanted k
+    → Fails e (added_at w (block_value b) now front) → AreAddedSoFar wanted blocks initial bytes k now rest → Fails e (blocks_at wanted 0 (map block_value blocks) initial bytes)
+added_fails wanted blocks initial now bytes rest front after k b w errors.Memory inside is cut same fails so_far = tt
+added_fails wanted blocks initial now bytes rest front after k b w (errors.Fault f) inside is cut same fails so_far =
+    let fails' : added_at (is_wanted wanted k) (block_value b) now front ≡ Err f = subst (λ (t : Bool). added_at t (block_value b) now front ≡ Err f) same fails in
+    let one : (front_at b.length rest >>= λ block. added_at (is_wanted wanted k) (block_value b) now block.0 >>= λ more. blocks_at wanted (k + 1) (map block_value (drop (k + 1) blocks)) more block.1) ≡ Err f = rw (cut, fails') refl in
+    sym so_far ∙ opened wanted blocks k now rest b inside is ∙ one
 
-no_more : (wanted : List Bool) (unread : ℕ → List ℕ) (blocks : List Block) (now : List ZoneValue) (rest : List ℕ) (k : ℕ) → length blocks ≤ k → blocks_at wanted unread k (map block_value (drop k blocks)) now rest ≡ cond (eqb (length rest) 0) (Ok now) (Err Trailing)
+no_more : (wanted : List Bool) (blocks : List Block) (now : List ZoneValue) (rest : List ℕ) (k : ℕ) → length blocks ≤ k → blocks_at wanted k (map block_value (drop k blocks)) now rest ≡ cond (eqb (length rest) 0) (Ok now) (Err Trailing)
 unfolding blocks_at
-no_more wanted unread blocks now rest k past = ap (λ (l : List Block). blocks_at wanted unread k (map block_value l) now rest) (drop_past blocks k past)
+no_more wanted blocks now rest k past = ap (λ (l : List Block). blocks_at wanted k (map block_value l) now rest) (drop_past blocks k past)
 
-pub added_done : (wanted : List Bool) (unread : ℕ → List ℕ) (blocks : List Block) (initial now : List ZoneValue) (bytes rest : List ℕ) (k : ℕ) (b : Bool) → length blocks ≤ k → b ≡ eqb (length rest) 0 → b ≡ true → AreAddedSoFar wanted unread blocks initial bytes k now rest
-    → blocks_at wanted unread 0 (map block_value blocks) initial bytes ≡ Ok now
-added_done wanted unread blocks initial now bytes rest k b past is full so_far = sym so_far ∙ no_more wanted unread blocks now rest k past ∙ ap (λ (t : Bool). cond t (Ok now) (Err Trailing)) (sym is ∙ full)
+pub added_done : (wanted : List Bool) (blocks : List Block) (initial now : List ZoneValue) (bytes rest : List ℕ) (k : ℕ) (b : Bool) → length blocks ≤ k → b ≡ eqb (length rest) 0 → b ≡ true → AreAddedSoFar wanted blocks initial bytes k now rest
+    → blocks_at wanted 0 (map block_value blocks) initial bytes ≡ Ok now
+added_done wanted blocks initial now bytes rest k b past is full so_far = sym so_far ∙ no_more wanted blocks now rest k past ∙ ap (λ (t : Bool). cond t (Ok now) (Err Trailing)) (sym is ∙ full)
 
-pub added_trails : (wanted : List Bool) (unread : ℕ → List ℕ) (blocks : List Block) (initial now : List ZoneValue) (bytes rest : List ℕ) (k : ℕ) (b : Bool) → length blocks ≤ k → b ≡ eqb (length rest) 0 → b ≡ false → AreAddedSoFar wanted unread blocks initial bytes k now rest
-    → blocks_at wanted unread 0 (map block_value blocks) initial bytes ≡ Err Trailing
-added_trails wanted unread blocks initial now bytes rest k b past is full so_far = sym so_far ∙ no_more wanted unread blocks now rest k past ∙ ap (λ (t : Bool). cond t (Ok now) (Err Trailing)) (sym is ∙ full)
+pub added_trails : (wanted : List Bool) (blocks : List Block) (initial now : List ZoneValue) (bytes rest : List ℕ) (k : ℕ) (b : Bool) → length blocks ≤ k → b ≡ eqb (length rest) 0 → b ≡ false → AreAddedSoFar wanted blocks initial bytes k now rest
+    → blocks_at wanted 0 (map block_value blocks) initial bytes ≡ Err Trailing
+added_trails wanted blocks initial now bytes rest k b past is full so_far = sym so_far ∙ no_more wanted blocks now rest k past ∙ ap (λ (t : Bool). cond t (Ok now) (Err Trailing)) (sym is ∙ full)

@@ -148,19 +148,19 @@ pub record FitsEncoding (n : ℕ) (x : IndexValue) (pieces : List (List (List �
 abbrev pub is_wanted : List Bool → ℕ → Bool
 is_wanted wanted k = slice_index_or wanted k true
 
--- the pieces from this place on, with another one in place of each that is not wanted
-abbrev pub wanted_pieces : List Bool → ℕ → List ℕ → List (List ℕ) → List (List ℕ)
-wanted_pieces wanted k unread [] = []
-wanted_pieces wanted k unread (p ∷ ps) = (if is_wanted wanted k then p else unread) ∷ wanted_pieces wanted (suc k) unread ps
+-- the pieces from this place on, with an empty one in place of each that is not wanted
+abbrev pub wanted_pieces : List Bool → ℕ → List (List ℕ) → List (List ℕ)
+wanted_pieces wanted k [] = []
+wanted_pieces wanted k (p ∷ ps) = (if is_wanted wanted k then p else []) ∷ wanted_pieces wanted (suc k) ps
 
-abbrev pub wanted_zones : List Bool → (ℕ → List ℕ) → List ZoneValue → List (List (List ℕ)) → List ZoneValue
-wanted_zones wanted unread [] pieces = []
-wanted_zones wanted unread (z ∷ zs) [] = []
-wanted_zones wanted unread (z ∷ zs) (ps ∷ pieces) = record z { statistics = flat_map bytes_encoding (wanted_pieces wanted 0 (unread z.rows) ps) } ∷ wanted_zones wanted unread zs pieces
+abbrev pub wanted_zones : List Bool → List ZoneValue → List (List (List ℕ)) → List ZoneValue
+wanted_zones wanted [] pieces = []
+wanted_zones wanted (z ∷ zs) [] = []
+wanted_zones wanted (z ∷ zs) (ps ∷ pieces) = record z { statistics = flat_map bytes_encoding (wanted_pieces wanted 0 ps) } ∷ wanted_zones wanted zs pieces
 
--- the index, with pieces by the number of rows in place of those that are not wanted
-abbrev pub wanted_of : List Bool → (ℕ → List ℕ) → IndexValue → List (List (List ℕ)) → IndexValue
-wanted_of wanted unread x pieces = record x { zones = wanted_zones wanted unread x.zones pieces }
+-- the index, with empty pieces in place of those that are not wanted
+abbrev pub wanted_of : List Bool → IndexValue → List (List (List ℕ)) → IndexValue
+wanted_of wanted x pieces = record x { zones = wanted_zones wanted x.zones pieces }
 
 abbrev pub with_statistics : ZoneValue → List ℕ → ZoneValue
 with_statistics z more = record z { statistics = z.statistics ++ more }
@@ -171,9 +171,9 @@ dealt give [] xs = []
 dealt give (p ∷ ps) [] = []
 dealt give (p ∷ ps) (x ∷ xs) = give x (bytes_encoding p) ∷ dealt give ps xs
 
--- each zone with the piece for one that is not read
-abbrev pub with_unread : (ℕ → List ℕ) → List ZoneValue → List ZoneValue
-with_unread unread zs = map (λ z. with_statistics z (bytes_encoding (unread z.rows))) zs
+-- each zone with an empty piece, of a block that is not read
+abbrev pub with_unread : List ZoneValue → List ZoneValue
+with_unread zs = map (λ z. with_statistics z (bytes_encoding [])) zs
 
 -- the bytes are pieces, each after its length, and each of these is given one
 pub record AreDealt {A : Type 0} (give : A → List ℕ → A) (old : List A) (bytes : List ℕ) (new : List A) : Type 0 where
@@ -183,13 +183,13 @@ pub record AreDealt {A : Type 0} (give : A → List ℕ → A) (old : List A) (b
   pub fit : AllByRecursion (λ p. length p < 2 ^ 64) pieces
   pub given : new ≡ dealt give pieces old
 
--- a block adds a piece to each zone: if it is wanted its own, which its digest tells
-abbrev pub AddsBlock : Bool → (ℕ → List ℕ) → BlockValue → List ℕ → List ZoneValue → List ZoneValue → Type 0
-AddsBlock true unread b block old new = AreDealt with_statistics old block new × (b.digest ≡ sha256 block)
-AddsBlock false unread b block old new = new ≡ with_unread unread old
+-- a block adds a piece to each zone: if it is wanted its own, which its digest tells, and else an empty one
+abbrev pub AddsBlock : Bool → BlockValue → List ℕ → List ZoneValue → List ZoneValue → Type 0
+AddsBlock true b block old new = AreDealt with_statistics old block new × (b.digest ≡ sha256 block)
+AddsBlock false b block old new = new ≡ with_unread old
 
 -- so do blocks, from this place on, one after another
-abbrev pub AddBlocks : List Bool → (ℕ → List ℕ) → ℕ → List BlockValue → List ℕ → List ZoneValue → List ZoneValue → Type 0
-AddBlocks wanted unread k [] bytes old new = (bytes ≡ []) × (new ≡ old)
-AddBlocks wanted unread k (b ∷ bs) bytes old new =
-    (block rest : List ℕ) × (some : List ZoneValue) × (bytes ≡ block ++ rest) × (length block ≡ b.length) × AddsBlock (is_wanted wanted k) unread b block old some × AddBlocks wanted unread (suc k) bs rest some new
+abbrev pub AddBlocks : List Bool → ℕ → List BlockValue → List ℕ → List ZoneValue → List ZoneValue → Type 0
+AddBlocks wanted k [] bytes old new = (bytes ≡ []) × (new ≡ old)
+AddBlocks wanted k (b ∷ bs) bytes old new =
+    (block rest : List ℕ) × (some : List ZoneValue) × (bytes ≡ block ++ rest) × (length block ≡ b.length) × AddsBlock (is_wanted wanted k) b block old some × AddBlocks wanted (suc k) bs rest some new

@@ -126,20 +126,20 @@ dealt_at give (x ∷ xs) bytes = do
   Ok (give x piece.0 ∷ others)
 
 -- the zones with a piece more, if the bytes of a wanted block have this digest
-unfoldable pub added_at : Bool → (ℕ → List ℕ) → BlockValue → List ZoneValue → List ℕ → Result (List ZoneValue) EncodingError
-added_at true unread b zones block = if bytes_eq (sha256 block) b.digest then dealt_at with_statistics zones block else Err Damaged
-added_at false unread b zones block = Ok (with_unread unread zones)
+unfoldable pub added_at : Bool → BlockValue → List ZoneValue → List ℕ → Result (List ZoneValue) EncodingError
+added_at true b zones block = if bytes_eq (sha256 block) b.digest then dealt_at with_statistics zones block else Err Damaged
+added_at false b zones block = Ok (with_unread zones)
 
 -- the zones with the pieces of all blocks, from this place on
-unfoldable pub blocks_at : List Bool → (ℕ → List ℕ) → ℕ → List BlockValue → List ZoneValue → List ℕ → Result (List ZoneValue) EncodingError
-blocks_at wanted unread k [] zones bytes = if length bytes == 0 then Ok zones else Err Trailing
-blocks_at wanted unread k (b ∷ bs) zones bytes = do
+unfoldable pub blocks_at : List Bool → ℕ → List BlockValue → List ZoneValue → List ℕ → Result (List ZoneValue) EncodingError
+blocks_at wanted k [] zones bytes = if length bytes == 0 then Ok zones else Err Trailing
+blocks_at wanted k (b ∷ bs) zones bytes = do
   block ← front_at b.length bytes
-  more ← added_at (is_wanted wanted k) unread b zones block.0
-  blocks_at wanted unread (suc k) bs more block.1
+  more ← added_at (is_wanted wanted k) b zones block.0
+  blocks_at wanted (suc k) bs more block.1
 
 -- the index of a root, with what its blocks say
-abbrev pub index_at : List Bool → (ℕ → List ℕ) → RootValue → List ℕ → Result IndexValue EncodingError
-index_at wanted unread r bytes = do
-  zones ← blocks_at wanted unread 0 r.blocks r.index.zones bytes
+abbrev pub index_at : List Bool → RootValue → List ℕ → Result IndexValue EncodingError
+index_at wanted r bytes = do
+  zones ← blocks_at wanted 0 r.blocks r.index.zones bytes
   Ok (record (r.index) { zones = zones })

@@ -1,6 +1,6 @@
 //! The blocks of an index: pieces of the statistics of its zones.
 
-ghost use Rattle.std.specs.Prelude.{◌≡◌, ◌++◌, ℕ, List, OnOk, map};
+ghost use Rattle.std.specs.Prelude.{◌≡◌, ◌++◌, [], OnOk, map};
 ghost use Rattle.zone_index.specs.Encoding.{block_value, bytes_encoding, is_wanted, with_statistics, with_unread, zone_values};
 ghost use Rattle.zone_index.specs.EncodingReading.{Gives, added_at, blocks_at, dealt_at};
 
@@ -10,32 +10,20 @@ use crate::zones::Zone;
 use sha2::{Digest, Sha256};
 use std::alloc::AllocError;
 
-/// What stands in place of a piece that is not read.
-pub trait Unread {
-    // The piece of a zone with so many rows.
-    ghost piece: { Self → ℕ → List ℕ };
-
-    /// Appends the piece of a zone with so many rows, after its length.
-    fn append_piece(&self, rows: u64, output: &mut Vec<u8>) -> Result<(), AllocError>
-        ensures { OnOk result (output.new.items ≡
-            output.old.items ++ bytes_encoding (piece self.now rows)) };
-}
-
 /// Adds to each zone the pieces that blocks have of it: these bytes.
-pub(crate) fn add_blocks<U: Unread>(
+pub(crate) fn add_blocks(
     zones: &mut [Zone],
     blocks: &[Block],
     bytes: &[u8],
     wanted: &[bool],
-    unread: &U,
 ) -> Result<(), ReadError>
-    ensures { Gives (λ _. zone_values zones.new) result (blocks_at wanted.now (U.piece unread.now) 0
+    ensures { Gives (λ _. zone_values zones.new) result (blocks_at wanted.now 0
         (map block_value blocks.now) (zone_values zones.old) bytes.now) }
 {
     let mut rest = bytes;
     for (place, block) in blocks.iter().enumerate() {
         let (front, after) = front_in(block.length, rest)?;
-        add_block(zones, block, front, is_wanted(wanted, place), unread)?;
+        add_block(zones, block, front, is_wanted(wanted, place))?;
         rest = after;
     }
     if rest.is_empty() {
@@ -52,20 +40,19 @@ fn is_wanted(wanted: &[bool], place: usize) -> bool
     place >= wanted.len() || wanted[place]
 }
 
-/// Adds to each zone the piece that a block has of it, or what stands for it.
+/// Adds to each zone the piece that a block has of it, or an empty one.
 #[tactic(auto, unfolding(crate::specs::EncodingReading::added_at))]
-fn add_block<U: Unread>(
+fn add_block(
     zones: &mut [Zone],
     block: &Block,
     bytes: &[u8],
     is_wanted: bool,
-    unread: &U,
 ) -> Result<(), ReadError>
-    ensures { Gives (λ _. zone_values zones.new) result (added_at is_wanted (U.piece unread.now)
+    ensures { Gives (λ _. zone_values zones.new) result (added_at is_wanted
         (block_value block.now) (zone_values zones.old) bytes.now) }
 {
     if !is_wanted {
-        add_unread(zones, unread)?;
+        add_unread(zones)?;
         return Ok(());
     }
     if Sha256::digest(bytes).as_slice() != block.digest.as_slice() {
@@ -74,15 +61,21 @@ fn add_block<U: Unread>(
     add_pieces(zones, bytes)
 }
 
-/// Adds to each zone what stands for a piece of it.
-fn add_unread<U: Unread>(zones: &mut [Zone], unread: &U) -> Result<(), AllocError>
-    ensures { OnOk result (zone_values zones.new ≡
-        with_unread (U.piece unread.now) (zone_values zones.old)) }
+/// Adds to each zone an empty piece.
+fn add_unread(zones: &mut [Zone]) -> Result<(), AllocError>
+    ensures { OnOk result (zone_values zones.new ≡ with_unread (zone_values zones.old)) }
 {
     for zone in zones.iter_mut() {
-        unread.append_piece(zone.rows, &mut zone.statistics)?;
+        push_empty(&mut zone.statistics)?;
     }
     Ok(())
+}
+
+/// Appends an empty piece: its length, which is 0.
+fn push_empty(output: &mut Vec<u8>) -> Result<(), AllocError>
+    ensures { OnOk result (output.new.items ≡ output.old.items ++ bytes_encoding []) }
+{
+    output.extend_from_slice(&0u64.to_le_bytes())
 }
 
 /// Adds to each zone the piece that these bytes have of it.

@@ -23,7 +23,6 @@ mod taking;
 mod writing;
 mod zones;
 
-pub use blocks::Unread;
 pub use counting::count;
 pub use encoding::{Block, EncodingError, Index, MAGIC, ReadError, Root, VERSION, WriteError};
 pub use errors::{Cause, RecordError, Refusal, SearchError};

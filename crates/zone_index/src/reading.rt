@@ -6,7 +6,7 @@ ghost use Rattle.zone_index.specs.Encoding.{AddBlocks, FitsEncoding, IndexValue,
 ghost use Rattle.zone_index.specs.EncodingReading.{Gives, block_at, content_at, counted_at, file_at, index_at, many_at, root_at, signed_at, zone_at};
 ghost use Rattle.zone_index.specs.declared.encoding.ReadError.TheVariants.{Memory};
 
-use crate::blocks::{Unread, add_blocks};
+use crate::blocks::add_blocks;
 use crate::encoding::{Block, DIGEST, EncodingError, Index, MAGIC, ReadError, Root, VERSION};
 use crate::fields::{after_known, bytes_in, front_in, u64_at};
 use crate::zones::Zone;
@@ -170,41 +170,31 @@ pub fn read_root(alloc: Global, bytes: &[u8]) -> Result<(Root, &[u8]), ReadError
 }
 
 /// The index of a root, with the statistics that its blocks have.
-fn index_in<U: Unread>(
-    root: Root,
-    bytes: &[u8],
-    wanted: &[bool],
-    unread: &U,
-) -> Result<Index, ReadError>
+fn index_in(root: Root, bytes: &[u8], wanted: &[bool]) -> Result<Index, ReadError>
     ensures { Gives index_value result
-        (index_at wanted.now (U.piece unread.now) (root_value root) bytes.now) }
+        (index_at wanted.now (root_value root) bytes.now) }
 {
     let Root { mut index, blocks } = root;
-    add_blocks(&mut index.zones, &blocks, bytes, wanted, unread)?;
+    add_blocks(&mut index.zones, &blocks, bytes, wanted)?;
     Ok(index)
 }
 
 /// The index of a root, with the statistics that its blocks have: these bytes.
 ///
 /// A block at whose place the list has `false` is not wanted. Its bytes are not looked at, and
-/// other pieces stand in place of its own.
-pub fn read_blocks<U: Unread>(
-    root: Root,
-    bytes: &[u8],
-    wanted: &[bool],
-    unread: &U,
-) -> Result<Index, ReadError>
+/// each zone has an empty piece of it.
+pub fn read_blocks(root: Root, bytes: &[u8], wanted: &[bool]) -> Result<Index, ReadError>
     // What is read has this encoding.
-    ensures found { IfOk result (λ index. AddBlocks wanted.now (U.piece unread.now) 0
+    ensures found { IfOk result (λ index. AddBlocks wanted.now 0
         (map block_value root.blocks.items) bytes.now
         (zone_values root.index.zones.items) (zone_values index.zones.items)) }
     // What was written is read, unless memory runs out.
     ensures only { (n : ℕ) (x : IndexValue) (pieces : List (List (List ℕ))) → FitsEncoding n x pieces
         → root_value root ≡ root_of x (blocks_of n pieces) → bytes.now ≡ concat (blocks_of n pieces)
-        → Gives index_value result (Ok (wanted_of wanted.now (U.piece unread.now) x pieces)) }
+        → Gives index_value result (Ok (wanted_of wanted.now x pieces)) }
     // Which error it is, and what is read.
     ensures exact { Gives index_value result
-        (index_at wanted.now (U.piece unread.now) (root_value root) bytes.now) }
+        (index_at wanted.now (root_value root) bytes.now) }
 {
-    index_in(root, bytes, wanted, unread)
+    index_in(root, bytes, wanted)
 }

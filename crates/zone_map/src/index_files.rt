@@ -1,6 +1,5 @@
 //! An index is read from its file: the root, and the blocks that are wanted.
 
-use record_search::RowsAlone;
 use std::alloc::{AllocError, AllocFailed, Global};
 use std::io;
 use zone_index::{Block, Index, ReadAt, ReadError, Root, read_blocks, read_root};
@@ -79,7 +78,7 @@ impl<R: ReadAt> IndexFile<R> {
         wanted: &[bool],
     ) -> Result<Index, IndexError> {
         let bytes = self.wanted_blocks(alloc, start, wanted, &mut root.blocks)?;
-        Ok(read_blocks(root, &bytes, wanted, &RowsAlone)?)
+        Ok(read_blocks(root, &bytes, wanted)?)
     }
 
     /// The bytes of the blocks that are wanted. Any other block gets the length 0, so that these are

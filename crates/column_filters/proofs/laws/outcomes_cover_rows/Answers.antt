@@ -1,6 +1,6 @@
 -- The law, by the laws of the order of contents.
 use Rattle.vortex_cells.proofs.CellLaws.{from_below}
-use Rattle.column_filters.proofs.OpenPieces.{covers}
+use Rattle.column_filters.proofs.Covering.{covers}
 use Rattle.column_filters.proofs.laws.outcomes_cover_rows.Goals as goal
 
 pub returns : goal.returns

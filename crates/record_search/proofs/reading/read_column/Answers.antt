@@ -1,11 +1,11 @@
--- Statistics are read exactly where the bytes are their encoding.
+-- Statistics are read exactly where the piece says them.
 use Rattle.vortex_dtype.specs.TypeOf.{type_of}
 use Rattle.vortex_statistics.specs.Statistics.{known}
 use Rattle.record_search.proofs.DecodeLaws.{none_read, read_found}
 use Rattle.record_search.proofs.reading.read_column.Goals as goal
 
 pub returns-in-Ok : goal.returns-in-Ok
-returns-in-Ok c = read_found (type_of c.dtype_of.result) c.args.column c.args.bytes.now (known c.decode_statistics_into.new.statistics) c.dtype_of.ensures c.in-Ok.ensures.read
+returns-in-Ok c = read_found (type_of c.dtype_of.result) c.args.column c.args.bytes.now (known c.decode_piece_into.new.statistics) c.dtype_of.ensures c.in-Ok.ensures.said
 
 pub returns : goal.returns
 returns c = none_read (type_of c.dtype_of.result) c.args.column c.args.bytes.now c.in-Err.error c.dtype_of.ensures c.in-Err.ensures.whole c.in_default.not-OutOfMemory

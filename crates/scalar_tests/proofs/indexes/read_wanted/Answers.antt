@@ -1,7 +1,5 @@
 -- What was written is read.
 use Rattle.std.proofs.Common.{◌≡◌, ℕ, List, Bool, Result, Ok, Err, IfOk}
-use Rattle.statistics_bytes.specs.Encoding.{encoding}
-use Rattle.record_search.specs.Searched.{rows_alone}
 use Rattle.zone_index.specs.Encoding.{FitsEncoding, IndexValue, index_encoding, index_value, wanted_of}
 use Rattle.zone_index.specs.EncodingReading.{Gives}
 use Rattle.zone_index.specs.declared.encoding.Index.{Index}
@@ -13,9 +11,9 @@ is_value x (Ok kept) gives = cc
 is_value x (Err e) gives = tt
 
 wanted_back : (wanted : List Bool) (bytes : List ℕ) (read : Result Index ReadError)
-    → ((n : ℕ) (x : IndexValue) (pieces : List (List (List ℕ))) → FitsEncoding n x pieces → bytes ≡ index_encoding n x pieces → Gives index_value read (Ok (wanted_of wanted (λ rows. encoding (rows_alone rows)) x pieces)))
-    → IfOk read (λ kept. (n : ℕ) (x : IndexValue) (pieces : List (List (List ℕ))) → FitsEncoding n x pieces → bytes ≡ index_encoding n x pieces → index_value kept ≡ wanted_of wanted (λ rows. encoding (rows_alone rows)) x pieces)
-wanted_back wanted bytes (Ok kept) h = λ n x pieces fits e. is_value (wanted_of wanted (λ rows. encoding (rows_alone rows)) x pieces) (Ok kept) (h n x pieces fits e)
+    → ((n : ℕ) (x : IndexValue) (pieces : List (List (List ℕ))) → FitsEncoding n x pieces → bytes ≡ index_encoding n x pieces → Gives index_value read (Ok (wanted_of wanted x pieces)))
+    → IfOk read (λ kept. (n : ℕ) (x : IndexValue) (pieces : List (List (List ℕ))) → FitsEncoding n x pieces → bytes ≡ index_encoding n x pieces → index_value kept ≡ wanted_of wanted x pieces)
+wanted_back wanted bytes (Ok kept) h = λ n x pieces fits e. is_value (wanted_of wanted x pieces) (Ok kept) (h n x pieces fits e)
 wanted_back wanted bytes (Err e) h = tt
 
 pub returns : goal.returns

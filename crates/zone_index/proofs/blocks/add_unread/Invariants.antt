@@ -4,4 +4,4 @@ use Rattle.zone_index.specs.Encoding.{with_unread, zone_value, zone_values}
 use Rattle.zone_index.proofs.blocks.add_unread.Given as goal
 
 abbrev pub invariant-loop-zone : goal.invariant-loop-zone
-invariant-loop-zone g l = map zone_value (take l.zone-index l.zones) ++ with_unread (g.U.Unread.piece l.unread) (map zone_value (drop l.zone-index l.zones)) ≡ with_unread (g.U.Unread.piece l.unread) (zone_values l.initial.zones)
+invariant-loop-zone l = map zone_value (take l.zone-index l.zones) ++ with_unread (map zone_value (drop l.zone-index l.zones)) ≡ with_unread (zone_values l.initial.zones)

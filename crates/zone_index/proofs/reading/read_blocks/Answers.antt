@@ -5,7 +5,7 @@ use Rattle.zone_index.proofs.BlockLaws.{index_again, index_found}
 use Rattle.zone_index.proofs.reading.read_blocks.Goals as goal
 
 pub returns-clause-found : goal.returns-clause-found
-returns-clause-found g c = index_found c.args.wanted.now (g.U.Unread.piece c.args.unread.now) (root_value c.args.root) c.args.bytes.now c.index_in.result (λ i. omega (arith, c.type_inv.bytes i)) c.index_in.ensures
+returns-clause-found c = index_found c.args.wanted.now (root_value c.args.root) c.args.bytes.now c.index_in.result (λ i. omega (arith, c.type_inv.bytes i)) c.index_in.ensures
 
 pub returns-clause-only : goal.returns-clause-only
-returns-clause-only g c = λ n x pieces fits same all. index_again c.args.wanted.now (g.U.Unread.piece c.args.unread.now) n x pieces (root_value c.args.root) c.args.bytes.now c.index_in.result fits.have same all c.index_in.ensures
+returns-clause-only c = λ n x pieces fits same all. index_again c.args.wanted.now n x pieces (root_value c.args.root) c.args.bytes.now c.index_in.result fits.have same all c.index_in.ensures
