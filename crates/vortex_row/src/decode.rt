@@ -8,8 +8,10 @@ mod texts;
 mod values;
 
 ghost use Rattle.std.specs.Prelude.{◌≡◌, ◌≢◌, ◌↔◌, ◌⊎◌, ℕ, List, Err, IfErr, IfOk, OnOk, length};
-ghost use Rattle.vortex_row.specs.Decoded.{BeginsWithKey, BeginsWithRow, DecodesInto, DecodesRowTo, DecodesTo, IsDecoded, IsDecodedRow, IsFirstBad, IsKeyOf, IsRowKeyOf};
-ghost use Rattle.vortex_row.specs.Words.{AllHaveVariants, BadKey, HasNoVariant, HasVariant, HaveNoVariant, OutOfMemory, RawTree, UnionsHaveVariants, WrongLength, dtype_trees, type_of};
+ghost use Rattle.vortex_row.specs.Decoded.{BeginsWithKey, BeginsWithRow, DecodesInto, DecodesRowTo, DecodesTo};
+ghost use Rattle.vortex_row.specs.Decoded.{IsDecoded, IsDecodedRow, IsFirstBad, IsKeyOf, IsRowKeyOf};
+ghost use Rattle.vortex_row.specs.Words.{AllHaveVariants, BadKey, HasNoVariant, HasVariant, HaveNoVariant, OutOfMemory};
+ghost use Rattle.vortex_row.specs.Words.{RawTree, UnionsHaveVariants, WrongLength, dtype_trees, type_of};
 
 use crate::error::RowError;
 use crate::options::SortOptions;

@@ -1,6 +1,7 @@
 //! Bytes that are read from the front.
 
-ghost use Rattle.std.specs.Prelude.{◌≡◌, ◌≤◌, ◌≢◌, ℕ, List, [], ◌∷◌, MatchOption, MatchResult, drop, false, true, length, take};
+ghost use Rattle.std.specs.Prelude.{◌≡◌, ◌≤◌, ◌≢◌, ℕ, List, [], ◌∷◌, MatchOption, MatchResult, drop, false, true};
+ghost use Rattle.std.specs.Prelude.{length, take};
 ghost use Rattle.vortex_row.specs.Held.{AreBytes};
 ghost use Rattle.vortex_row.specs.Bytes.{inverted_again, inverted_byte};
 ghost use Rattle.vortex_row.specs.Steps.{inverted_word};

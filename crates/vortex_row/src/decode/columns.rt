@@ -1,9 +1,11 @@
 //! Scalars of columns and of rows from their keys.
 
 ghost use Rattle.std.specs.Prelude.{◌≡◌, ◌≢◌, ◌≤◌, ◌∷◌, ℕ, List, MatchResult, false, length, true};
-ghost use Rattle.vortex_row.specs.ColumnReading.{AreColumnKeys, HasColumn, HasColumnAt, HasRow, IsColumnKey, IsRefusal, IsRefusalAt};
+ghost use Rattle.vortex_row.specs.ColumnReading.{AreColumnKeys, HasColumn, HasColumnAt, HasRow, IsColumnKey, IsRefusal};
+ghost use Rattle.vortex_row.specs.ColumnReading.{IsRefusalAt};
 ghost use Rattle.vortex_row.specs.Reading.{AllHaveValues, HasValues};
-ghost use Rattle.vortex_row.specs.Words.{IsNullable, OutOfMemory, absent, dtype_trees, null_byte, raw_of, scalar_raw, scalar_type, type_of};
+ghost use Rattle.vortex_row.specs.Words.{IsNullable, OutOfMemory, absent, dtype_trees, null_byte, raw_of, scalar_raw};
+ghost use Rattle.vortex_row.specs.Words.{scalar_type, type_of};
 
 use super::values::read_into;
 use crate::error::RowError;

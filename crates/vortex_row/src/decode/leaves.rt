@@ -1,7 +1,8 @@
 //! Values without parts from their keys.
 
 ghost use Rattle.vortex_row.specs.Reading.{IsPresent, Reads, ReadsInto, left};
-ghost use Rattle.vortex_row.specs.Words.{NonNullable, binary_type, bool_type, integer_type, raw_of, utf8_type, value_tree};
+ghost use Rattle.vortex_row.specs.Words.{NonNullable, binary_type, bool_type, integer_type, raw_of, utf8_type};
+ghost use Rattle.vortex_row.specs.Words.{value_tree};
 
 use super::numbers::read_number;
 use super::strings::{read_bytes, read_text};

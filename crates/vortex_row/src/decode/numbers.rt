@@ -1,9 +1,12 @@
 //! Numbers from their keys.
 
-ghost use Rattle.std.specs.Prelude.{◌≡◌, ◌-◌, ◌≤◌, ◌<◌, ℕ, List, IfErr, IfSome, MatchOption, MatchResult, drop, false, length, take, true};
-ghost use Rattle.vortex_row.specs.Numbers.{GoesOnAs, HasDistance, HasLimits, HasMagnitude, IsMagnitude, IsSide, number_tree, whole_at};
+ghost use Rattle.std.specs.Prelude.{◌≡◌, ◌-◌, ◌≤◌, ◌<◌, ℕ, List, IfErr, IfSome, MatchOption, MatchResult, drop, false};
+ghost use Rattle.std.specs.Prelude.{length, take, true};
+ghost use Rattle.vortex_row.specs.Numbers.{GoesOnAs, HasDistance, HasLimits, HasMagnitude, IsMagnitude, IsSide};
+ghost use Rattle.vortex_row.specs.Numbers.{number_tree, whole_at};
 ghost use Rattle.vortex_row.specs.Reading.{HasRead, IsInverted, IsKey, IsPresent, IsStuck, NoneBegins, Reads, left};
-ghost use Rattle.vortex_row.specs.Words.{InRange, IsNumber, NonNullable, big_endian, integer_type, inverted, ptype_of, raw_integer, whole_of};
+ghost use Rattle.vortex_row.specs.Words.{InRange, IsNumber, NonNullable, big_endian, integer_type, inverted, ptype_of};
+ghost use Rattle.vortex_row.specs.Words.{raw_integer, whole_of};
 
 use crate::reader::{
     Fault, Reader, are_bytes, bytes_from, inverted_again, inverted_if, inverted_word,

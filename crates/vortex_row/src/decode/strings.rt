@@ -1,6 +1,7 @@
 //! Strings from their keys.
 
-ghost use Rattle.std.specs.Prelude.{◌≡◌, ◌+◌, ◌++◌, ◌∷◌, ◌<◌, IfSome, MatchOption, MatchResult, IsAscii, IsUtf8, drop, length};
+ghost use Rattle.std.specs.Prelude.{◌≡◌, ◌+◌, ◌++◌, ◌∷◌, ◌<◌, IfSome, MatchOption, MatchResult, IsAscii, IsUtf8, drop};
+ghost use Rattle.std.specs.Prelude.{length};
 ghost use Rattle.vortex_row.specs.Reading.{BeginsWithOne, IsStuck, left};
 ghost use Rattle.vortex_row.specs.Strings.{AreCharacters, HasString, IsAny, IsEscaped, IsHalfEscaped};
 ghost use Rattle.vortex_row.specs.Words.{escape};

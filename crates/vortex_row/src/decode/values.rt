@@ -1,9 +1,14 @@
 //! Values from their keys, down the type. A refusal leaves the reader before the first byte that
 //! cannot be.
 
-ghost use Rattle.std.specs.Prelude.{◌≡◌, ◌≢◌, ◌++◌, ◌∷◌, ◌<◌, [], ℕ, List, MatchOption, MatchResult, Some, false, option_map, true};
-ghost use Rattle.vortex_row.specs.Reading.{AllHaveValues, HasRead, HasValues, IsChild, IsPresent, IsStuck, Puts, Reads, ReadsInto, entry_type, left};
-ghost use Rattle.vortex_row.specs.Words.{IsNullable, NonNullable, Valid, absent, as_type_trees, dtype_trees, fixed_size_list_type, integer_type, list_type, map_of, map_type, raw_of, raw_union, struct_type, type_of, type_with, union_tree, union_type, value_tree, variants_of};
+ghost use Rattle.std.specs.Prelude.{◌≡◌, ◌≢◌, ◌++◌, ◌∷◌, ◌<◌, [], ℕ, List, MatchOption, MatchResult, Some, false};
+ghost use Rattle.std.specs.Prelude.{option_map, true};
+ghost use Rattle.vortex_row.specs.Reading.{AllHaveValues, HasRead, HasValues, IsChild, IsPresent, IsStuck, Puts, Reads};
+ghost use Rattle.vortex_row.specs.Reading.{ReadsInto, entry_type, left};
+ghost use Rattle.vortex_row.specs.Words.{IsNullable, NonNullable, Valid, absent, as_type_trees, dtype_trees};
+ghost use Rattle.vortex_row.specs.Words.{fixed_size_list_type, integer_type, list_type, map_of, map_type, raw_of};
+ghost use Rattle.vortex_row.specs.Words.{raw_union, struct_type, type_of, type_with, union_tree, union_type};
+ghost use Rattle.vortex_row.specs.Words.{value_tree, variants_of};
 ghost use Rattle.vortex_row.specs.declared.reader.Fault.TheVariants.{Bad, NoMemory};
 
 use super::leaves::{put_number, put_text, read_binary, read_primitive, read_truth, read_utf8};
