@@ -10,7 +10,7 @@ ghost use Rattle.vortex_row.specs.Words.{scalar_type, type_of};
 use super::values::read_into;
 use crate::error::RowError;
 use crate::options::SortOptions;
-use crate::reader::{Fault, Reader, bytes_from};
+use crate::reader::{KeyDecodeError, Reader, bytes_from};
 use crate::tags::null_byte;
 use std::alloc::Global;
 use vortex_dtype::DType;
@@ -58,8 +58,8 @@ fn read_column(
     let taken = bytes.len().saturating_sub(reader.rest.len());
     match answer {
         Ok(()) => Ok(taken),
-        Err(Fault::NoMemory) => Err(RowError::OutOfMemory),
-        Err(Fault::Bad) => Err(RowError::BadKey { offset: taken }),
+        Err(KeyDecodeError::NoMemory) => Err(RowError::OutOfMemory),
+        Err(KeyDecodeError::Bad) => Err(RowError::BadKey { offset: taken }),
     }
 }
 
