@@ -1,5 +1,5 @@
 //! Conversions of Rust values into scalars.
-#![tactic(auto, using(crate::proofs::GivenEach::tuple_tree, crate::proofs::GivenEach::list_valid, crate::proofs::GivenEach::trees_given, crate::proofs::GivenEach::each_valid))]
+#![tactic(auto, using(crate::proofs::GivenEach::givens))]
 
 ghost use Rattle.std.specs.Prelude.{◌≡◌, ◌≤◌, length, IsOk, IsOkAnd, MatchResult, string_bytes};
 ghost use Rattle.vortex_array.specs.Words.{EachValid, IsMadeValid, NonNullable, OutOfMemory, RawTree, U64, Valid};
