@@ -186,7 +186,7 @@ def check_column(status: int, fault: Fault, of: str = "") -> None:
         BAD_OFFSETS: (BadOffsets, f"the offsets of row {place} go down, or past the end of the bytes"),
         TOO_SHORT: (TooShort, f"the {BUFFERS[min(place, 2)]} are too short for offset and length"),
         TOO_MANY_ROWS: (TooManyRows, "64 bits do not count the rows"),
-        BAD_BYTES: (BadBytes, f"byte {place} is not of the form"),
+        BAD_BYTES: (BadBytes, f"byte {place} is not of the encoding"),
         WRONG_LENGTH: (WrongLength, "there are not as many as there are to be"),
         UNKNOWN_KIND: (UnknownKind, "the call does not take this kind of column"),
     }

@@ -19,7 +19,7 @@ pub enum StatisticsError {
 impl fmt::Display for StatisticsError {
     fn fmt(&self, f: &mut fmt::Formatter<'_>) -> fmt::Result {
         match self {
-            StatisticsError::BadBytes(place) => write!(f, "byte {place} is not of the form"),
+            StatisticsError::BadBytes(place) => write!(f, "byte {place} is not of the encoding"),
             StatisticsError::TooManyRows => f.write_str("64 bits do not count the rows"),
             StatisticsError::KindsDiffer => f.write_str("the two are of other kinds"),
         }

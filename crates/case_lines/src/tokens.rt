@@ -5,7 +5,7 @@ use vortex_dtype::{Nullability, VortexError};
 
 /// Why reading a line stopped before its end.
 #[derive(Clone, Copy)]
-enum Fault {
+enum LineError {
     /// The line is not in the language.
     BadLine,
     /// More brackets, or levels of a filter, nest than may.
@@ -27,7 +27,7 @@ pub enum NoCall {
 
 /// What is left to read of a line.
 ///
-/// If the line is not in the language, nests too deep, or memory runs out, that fault is kept and
+/// If the line is not in the language, nests too deep, or memory runs out, that error is kept and
 /// nothing is left to read; what is read from then on means nothing. The first refusal of a maker of
 /// types is kept too, but the line is read on.
 #[derive(Drop)]
@@ -37,7 +37,7 @@ pub struct Tokens<'a> {
     /// How many brackets may nest in a type, in a value and in the text of a filter.
     pub room: usize,
     rest: &'a [u8],
-    fault: Option<Fault>,
+    error: Option<LineError>,
     refusal: Option<VortexError>,
     expected: Option<&'a [u8]>,
 }
@@ -49,7 +49,7 @@ impl<'a> Tokens<'a> {
             alloc,
             room,
             rest: line,
-            fault: None,
+            error: None,
             refusal: None,
             expected: None,
         }
@@ -65,22 +65,22 @@ impl<'a> Tokens<'a> {
         self.rest
     }
 
-    /// Keeps the fault if it is the first, and leaves nothing to read.
-    fn fail(&mut self, fault: Fault) {
-        if self.fault.is_none() {
-            self.fault = Some(fault);
+    /// Keeps the error if it is the first, and leaves nothing to read.
+    fn fail(&mut self, error: LineError) {
+        if self.error.is_none() {
+            self.error = Some(error);
         }
         self.rest = &[];
     }
 
     /// Marks the line as not in the language.
     pub fn bad_line(&mut self) {
-        self.fail(Fault::BadLine);
+        self.fail(LineError::BadLine);
     }
 
     /// Marks the line as one that nests too deep.
     pub fn too_deep(&mut self) {
-        self.fail(Fault::TooDeep);
+        self.fail(LineError::TooDeep);
     }
 
     /// Reads the arrow and the expected answer, if there are any. Returns why the call is not made, if
@@ -88,10 +88,10 @@ impl<'a> Tokens<'a> {
     /// if there was no memory to read the line.
     pub fn end(&mut self) -> Result<Option<NoCall>, AllocError> {
         self.read_expected();
-        match self.fault {
-            Some(Fault::BadLine) => Ok(Some(NoCall::BadLine)),
-            Some(Fault::TooDeep) => Ok(Some(NoCall::TooDeep)),
-            Some(Fault::NoMemory) => Err(AllocError),
+        match self.error {
+            Some(LineError::BadLine) => Ok(Some(NoCall::BadLine)),
+            Some(LineError::TooDeep) => Ok(Some(NoCall::TooDeep)),
+            Some(LineError::NoMemory) => Err(AllocError),
             None => Ok(self.refusal.take().map(NoCall::Refused)),
         }
     }
@@ -229,7 +229,7 @@ impl<'a> Tokens<'a> {
     /// Adds an item to the ones before it.
     pub fn push<T: Drop>(&mut self, items: &mut Vec<T>, item: T) {
         if items.push(item).is_err() {
-            self.fail(Fault::NoMemory);
+            self.fail(LineError::NoMemory);
         }
     }
 
@@ -237,7 +237,7 @@ impl<'a> Tokens<'a> {
     pub fn made<T>(&mut self, made: Result<T, VortexError>) -> Option<T> {
         match made {
             Ok(made) => return Some(made),
-            Err(VortexError::OutOfMemory) => self.fail(Fault::NoMemory),
+            Err(VortexError::OutOfMemory) => self.fail(LineError::NoMemory),
             Err(refusal) => drop(self.refusal.get_or_insert(refusal)),
         }
         None

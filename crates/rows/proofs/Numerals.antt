@@ -112,8 +112,6 @@ read_all text m i n is so_far past upto =
     subst (λ (k : ℕ). LeadingDigits 19 text n k) same
     (front_read text m i n is (omega (arith, count)) so_far (λ below inside. absurd (omega (arith, is, count))))
 
-pub ruleset digits = (read_none, read_more, read_other, read_all, small)
-
 -- a word of as many digits as are read, at most 18, is their number
 pub some_size : (ds : List ℕ) (n k : ℕ) → LeadingDigits 19 ds n k → k ≢ 0 → length ds ≤ k → k ≤ 18 → Some n ≡ size_named ds
 unfolding size_named natural_named is_natural all_digits
@@ -209,8 +207,6 @@ small_number text n k read =
     let g = ten_grows (length (take k text)) 20 (omega (arith, few, count)) in
     omega (arith, b, g)
 
-pub ruleset one_digit_more = (last_read, none_read, small_number)
-
 -- the digits before a space are a number
 pub says_number : (text : List ℕ) (n k : ℕ) → LeadingDigits 20 text n k → k ≢ 0 → k < length text → get_or text k 0 ≡ 32 → FirstSays natural_named text n (drop (k + 1) text)
 unfolding all_digits
@@ -260,8 +256,6 @@ reads_all text n k read all = says_none text n k read (λ w begins some is. let 
 -- no space follows
 pub no_space_follows : (text : List ℕ) (n k : ℕ) → LeadingDigits 20 text n k → get_or text k 0 ≢ 32 → FirstSaysNone natural_named text
 no_space_follows text n k read other = says_none text n k read (λ w begins some is. other (subst (λ (j : ℕ). get_or text j 0 ≡ 32) is begins.ends))
-
-pub ruleset naturals = (says_number, reads_nothing, reads_all, no_space_follows, take_rest)
 
 minus_of : (word : List ℕ) → number_named (45 ∷ word) ≡ option_map (λ n. neg_ℤ (pos n)) (natural_named word)
 unfolding number_named negative_named
@@ -326,4 +320,4 @@ after_minus_says text n rest some minus says = minus_says text n rest some minus
 pub after_minus_none : (text : List ℕ) → 0 < length text → get_or text 0 0 ≡ 45 → FirstSaysNone natural_named (take (length text - 1) (drop 1 text)) → FirstSaysNone number_named text
 after_minus_none text some minus none = minus_says_none text some minus (subst (λ (l : List ℕ). FirstSaysNone natural_named l) (take_rest text 1) none)
 
-pub ruleset signs = (after_minus_says, after_minus_none, plain_says, plain_says_none)
+pub ruleset numbers = (read_none, read_more, read_other, read_all, small, some_size, after_minus_says, after_minus_none, plain_says, plain_says_none, says_number, reads_nothing, reads_all, no_space_follows, take_rest, last_read, none_read, small_number)

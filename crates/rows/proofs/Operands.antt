@@ -65,8 +65,6 @@ no_number l r k kind none = sym (ap cast_operands kind.first ∙ by_words (words
     by_words (w ∷ v ∷ []) q = ap (λ number. cast_request (ptype_named kind.word) number (ptype_named v)) (none w v [] q) ∙ none_without _ _
     by_words (w ∷ v ∷ u ∷ ws) q = refl
 
-pub ruleset casts = (three_words, no_first, no_number)
-
 -- more than two words are no operands of `lower` and `upper`
 pub more_than_two : (side : Side) (l a r b s : List ℕ) → words_of l ≡ a ∷ words_of r → words_of r ≡ b ∷ words_of s → None ≡ bound_operands side (words_of l)
 more_than_two side l a r b s e f =
@@ -93,3 +91,5 @@ no_command line a b c =
     let is = λ (name : List ℕ) (alone : (ws : List (List ℕ)) → words_of line ≡ name ∷ ws → ws ≡ []) (e : bytes_eq more.0 name ≡ true).
     alone more.1 (more.2 ∙ ap (λ (w : List ℕ). w ∷ more.1) ((bytes_eq-Decides more.0 name).0 e)) in
     sym (ap request_in_words more.2 ∙ nothing more.0 more.1 (is (codes "cast") a) (is (codes "lower") b) (is (codes "upper") c))
+
+pub ruleset requests = (no_command, more_than_two, three_words, no_first, no_number)

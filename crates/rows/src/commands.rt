@@ -1,5 +1,5 @@
 //! The command on a line.
-#![tactic(auto, using(crate::proofs::Operands::no_command, crate::proofs::Operands::more_than_two, crate::proofs::Operands::casts))]
+#![tactic(auto, using(crate::proofs::Operands::requests))]
 
 ghost use Rattle.std.specs.Prelude.{◌≡◌, Some};
 ghost use Rattle.rows.specs.Words.{asked_by, bound_operands, cast_operands, cast_request, ptype_named, request_in};

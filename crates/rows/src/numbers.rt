@@ -1,5 +1,5 @@
 //! The words of a command: a `PType` or a number.
-#![tactic(auto, using(crate::proofs::Names::ends, crate::proofs::Names::cuts, crate::proofs::Numerals::digits, crate::proofs::Numerals::some_size, crate::proofs::Numerals::signs, crate::proofs::Numerals::naturals, crate::proofs::Numerals::one_digit_more))]
+#![tactic(auto, using(crate::proofs::Names::ends, crate::proofs::Names::cuts, crate::proofs::Numerals::numbers))]
 
 ghost use Rattle.std.specs.Prelude.{◌≡◌, IfNone, IfSome, ◌<◌, ◌^◌};
 ghost use Rattle.rows.specs.Words.{FirstSays, FirstSaysNone, IsNameEnd, LeadingDigits, natural_named, number_named};

@@ -46,3 +46,5 @@ tuple_tree vs = search (rules, the_lemmas)
 -- the tuple of valid parts is a valid list
 pub list_valid : (t d : TypeTree) (n : Nullability) (v : RawTree) (vs : RawTrees) → d ≡ list_type t n → v ≡ raw_tuple vs → EachValid t vs → Valid d v
 list_valid t d n v vs typed value valid = rw (typed, value) valid
+
+pub ruleset givens = (tuple_tree, list_valid, trees_given, each_valid)

@@ -2,7 +2,13 @@
 #![tactic(auto, using(crate::proofs::GivenEach::tuple_tree, crate::proofs::TakenEach::has_parts))]
 
 ghost use Rattle.std.specs.Prelude.{◌≡◌, Err, string_bytes};
-ghost use Rattle.vortex_array.specs.Words.{Copies, HasParts, RawTree, ShortNeverOutOfMemory, Taken, Takes, TakesCopy, TakesOrNoMemory, TypeTree, as_tuple, each_taken, elements_in, given_number, given_option, given_usize, given_vec, lent_raw, raw_bool, raw_bytes, raw_of, raw_text, raw_tuple, ref_raw, ref_type, taken_bool, taken_bytes, taken_from, taken_number, taken_option_bool, taken_option_bytes, taken_option_number, taken_option_text, taken_option_usize, taken_text, taken_usize, taken_vec, type_of, unless_null, value_trees};
+ghost use Rattle.vortex_array.specs.Words.{Copies, HasParts, RawTree, ShortNeverOutOfMemory, Taken, Takes, TakesCopy};
+ghost use Rattle.vortex_array.specs.Words.{TakesOrNoMemory, TypeTree, as_tuple, each_taken, elements_in, given_number};
+ghost use Rattle.vortex_array.specs.Words.{given_option, given_usize, given_vec, lent_raw, raw_bool, raw_bytes, raw_of};
+ghost use Rattle.vortex_array.specs.Words.{raw_text, raw_tuple, ref_raw, ref_type, taken_bool, taken_bytes, taken_from};
+ghost use Rattle.vortex_array.specs.Words.{taken_number, taken_option_bool, taken_option_bytes, taken_option_number};
+ghost use Rattle.vortex_array.specs.Words.{taken_option_text, taken_option_usize, taken_text, taken_usize, taken_vec};
+ghost use Rattle.vortex_array.specs.Words.{type_of, unless_null, value_trees};
 
 use crate::integers::Integer;
 use std::alloc::Global;

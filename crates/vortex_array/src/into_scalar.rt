@@ -1,8 +1,11 @@
 //! Conversions of Rust values into scalars.
-#![tactic(auto, using(crate::proofs::GivenEach::tuple_tree, crate::proofs::GivenEach::list_valid, crate::proofs::GivenEach::trees_given, crate::proofs::GivenEach::each_valid))]
+#![tactic(auto, using(crate::proofs::GivenEach::givens))]
 
 ghost use Rattle.std.specs.Prelude.{◌≡◌, ◌≤◌, length, IsOk, IsOkAnd, MatchResult, string_bytes};
-ghost use Rattle.vortex_array.specs.Words.{EachValid, IsMadeValid, NonNullable, OutOfMemory, RawTree, U64, Valid, binary_type, bool_type, given_each, given_number, given_option, given_usize, given_vec, integer_type, raw_bool, raw_bytes, raw_of, raw_text, utf8_type, value_trees};
+ghost use Rattle.vortex_array.specs.Words.{EachValid, IsMadeValid, NonNullable, OutOfMemory, RawTree, U64, Valid};
+ghost use Rattle.vortex_array.specs.Words.{binary_type, bool_type, given_each, given_number, given_option, given_usize};
+ghost use Rattle.vortex_array.specs.Words.{given_vec, integer_type, raw_bool, raw_bytes, raw_of, raw_text, utf8_type};
+ghost use Rattle.vortex_array.specs.Words.{value_trees};
 
 use crate::integers::Integer;
 use std::alloc::Global;

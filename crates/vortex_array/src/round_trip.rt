@@ -1,7 +1,9 @@
 //! Conversions into a scalar and back.
 
 ghost use Rattle.std.specs.Prelude.{refl, string_bytes};
-ghost use Rattle.vortex_array.specs.ConversionLaws.{bool_back, bytes_back, integer_back, option_bool_back, option_bytes_back, option_integer_back, option_text_back, option_usize_back, text_back, usize_back, vec_back, vec_named};
+ghost use Rattle.vortex_array.specs.ConversionLaws.{bool_back, bytes_back, integer_back, option_bool_back};
+ghost use Rattle.vortex_array.specs.ConversionLaws.{option_bytes_back, option_integer_back, option_text_back};
+ghost use Rattle.vortex_array.specs.ConversionLaws.{option_usize_back, text_back, usize_back, vec_back, vec_named};
 ghost use Rattle.vortex_array.specs.Words.{NamesAsGiven, NonNullable, Nullable, TakesBack};
 
 use crate::from_scalar::FromScalar;

@@ -1,7 +1,8 @@
 //! Whether a variant stands in a type: then its values have no order, and no keys.
 
 ghost use Rattle.std.specs.Prelude.{◌≡◌, false};
-ghost use Rattle.vortex_cells.specs.Words.{FirstIsByte, HasByteIds, HaveByteIds, dtype_trees, has_variant, have_variant, type_of, variants_of};
+ghost use Rattle.vortex_cells.specs.Words.{FirstIsByte, HasByteIds, HaveByteIds, dtype_trees, has_variant};
+ghost use Rattle.vortex_cells.specs.Words.{have_variant, type_of, variants_of};
 
 use vortex_dtype::{DType, UnionVariants};
 

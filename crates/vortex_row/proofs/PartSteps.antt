@@ -19,8 +19,8 @@ use Rattle.vortex_value.specs.declared.values.ScalarValue.{ScalarValue}
 use Rattle.vortex_row.specs.Held.{IsHeld}
 use Rattle.vortex_row.specs.Keys.{key, keys}
 use Rattle.vortex_row.specs.Reading.{AllHaveValues, ArePlain, AreKeys, AreSized, BeginAlike, ContinueWith, entry_type, HasRead, HasValues, HaveRead, IsChild, IsKey, IsPlain, IsPresent, IsStuck, NoneBegins, Reads}
-use Rattle.vortex_row.specs.declared.reader.Fault.{Fault}
-use Rattle.vortex_row.specs.declared.reader.Fault.TheVariants.{Bad}
+use Rattle.vortex_row.specs.declared.reader.KeyDecodeError.{KeyDecodeError}
+use Rattle.vortex_row.specs.declared.reader.KeyDecodeError.TheVariants.{Bad}
 use Rattle.vortex_row.proofs.ApartLaws.{key-apart}
 use Rattle.vortex_row.proofs.ByteLaws.{no_bytes}
 use Rattle.vortex_row.proofs.OrderLaws.{begins, least}
@@ -470,13 +470,13 @@ stuck-as has any u t old now same weaker stuck =
     (λ s h. record { value = h.value; plain = record { kind = same.to h.value h.plain.kind; held = h.plain.held; untyped = h.plain.untyped }; is = h.is })
     (λ s h. record { value = h.value; plain = record { kind = same.from h.value h.plain.kind; held = h.plain.held; untyped = h.plain.untyped }; is = h.is }) stuck
 
-pub reads-as : {A : Type 0} (has any : Type 0) (u t : TypeTree) (view : A → RawTree) (r : Result A Fault) (old now : List ℕ) → SameValues u t → (has → any) → Reads any (IsPresent u) view r old now
+pub reads-as : {A : Type 0} (has any : Type 0) (u t : TypeTree) (view : A → RawTree) (r : Result A KeyDecodeError) (old now : List ℕ) → SameValues u t → (has → any) → Reads any (IsPresent u) view r old now
     → Reads has (IsPresent t) view r old now
 reads-as has any u t view (Ok x) old now same weaker h = record { plain = record { kind = same.to (view x) h.plain.kind; held = h.plain.held; untyped = h.plain.untyped }; is = h.is }
 reads-as has any u t view (Err e) old now same weaker h = λ bad. stuck-as has any u t old now same weaker (h bad)
 
 -- a refusal that is passed on
-pub refused : {A : Type 0} (has : Type 0) (One : RawTree → Type 0) (view : A → RawTree) (r : Result A Fault) (e : Fault) (old now : List ℕ) → IsErr r × IsErrAnd r (λ f. f ≡ e)
+pub refused : {A : Type 0} (has : Type 0) (One : RawTree → Type 0) (view : A → RawTree) (r : Result A KeyDecodeError) (e : KeyDecodeError) (old now : List ℕ) → IsErr r × IsErrAnd r (λ f. f ≡ e)
     → (e ≡ Bad → IsStuck has (IsKey One) old now) → Reads has One view r old now
 refused has One view (Ok x) e old now h g = absurd (true≢false (sym h.0))
 refused has One view (Err f) e old now h g = λ bad. g (sym h.1 ∙ bad)

@@ -24,8 +24,8 @@ use Rattle.vortex_value.specs.Values.RawTree.{RawTree, absent, raw_union, raw_va
 use Rattle.vortex_value.proofs.ValueSteps.{value_tree-Tuple, value_tree-Union}
 use Rattle.vortex_row.specs.Keys.{key}
 use Rattle.vortex_row.specs.Reading.{AllHaveValues, AreKeys, AreSized, HasRead, HasValues, IsChild, IsKey, IsPlain, IsPresent, IsStuck, Puts, Reads, entry_type}
-use Rattle.vortex_row.specs.declared.reader.Fault.{Fault}
-use Rattle.vortex_row.specs.declared.reader.Fault.TheVariants.{Bad, NoMemory}
+use Rattle.vortex_row.specs.declared.reader.KeyDecodeError.{KeyDecodeError}
+use Rattle.vortex_row.specs.declared.reader.KeyDecodeError.TheVariants.{Bad, NoMemory}
 use Rattle.vortex_row.proofs.OrderLaws.{begins}
 use Rattle.vortex_row.proofs.PartSteps.{Opens, SameValues, SoFar, Takes, TupleOf, continue-child, null-read, opens-none, opens-stuck, present-read, present-stuck, reads-as, refused, so-far-end, so-far-more, so-far-none, so-far-open, so-far-stuck, some-key, some-keys, some_sized, some_value, some_values, stuck-as, tagged-opens, takes-field, tuple-opens, tuple-read}
 use Rattle.vortex_row.proofs.StuckLaws.{Some, stuck-here, stuck-later, stuck-same}
@@ -94,17 +94,17 @@ has_bare (variant_type n) h = h
 has_bare (extension_type id metadata t) h = h
 
 -- one kind of type
-pub arm : {A : Type 0} (any : Type 0) (d t : TypeTree) (view : A → RawTree) (r : Result A Fault) (old now : List ℕ) → d ≡ t → (HasValues t → any) → Reads any (IsPresent (bare t)) view r old now
+pub arm : {A : Type 0} (any : Type 0) (d t : TypeTree) (view : A → RawTree) (r : Result A KeyDecodeError) (old now : List ℕ) → d ≡ t → (HasValues t → any) → Reads any (IsPresent (bare t)) view r old now
     → Reads (HasValues d) (IsPresent d) view r old now
 arm any d t view r old now e weaker h =
     subst (λ u. Reads (HasValues u) (IsPresent u) view r old now) (sym e)
     (reads-as (HasValues t) any (bare t) t view r old now (record { to = from_bare t; from = to_bare t }) weaker h)
 
-pub union-arm : {A : Type 0} (d : TypeTree) (names : List (List ℕ)) (ts : TypeTrees) (ids : List ℕ) (n : Nullability) (view : A → RawTree) (r : Result A Fault) (old now : List ℕ) → d ≡ union_type names ts ids n
+pub union-arm : {A : Type 0} (d : TypeTree) (names : List (List ℕ)) (ts : TypeTrees) (ids : List ℕ) (n : Nullability) (view : A → RawTree) (r : Result A KeyDecodeError) (old now : List ℕ) → d ≡ union_type names ts ids n
     → Reads (HasValues (union_type [] ts ids NonNullable)) (IsPresent (union_type [] ts ids NonNullable)) view r old now → Reads (HasValues d) (IsPresent d) view r old now
 union-arm d names ts ids n view r old now e h = arm (HasValues (union_type [] ts ids NonNullable)) d (union_type names ts ids n) view r old now e (has_bare (union_type names ts ids n)) h
 
-pub extension-arm : {A : Type 0} (d t : TypeTree) (id metadata : List ℕ) (view : A → RawTree) (r : Result A Fault) (old now : List ℕ) → d ≡ extension_type id metadata t
+pub extension-arm : {A : Type 0} (d t : TypeTree) (id metadata : List ℕ) (view : A → RawTree) (r : Result A KeyDecodeError) (old now : List ℕ) → d ≡ extension_type id metadata t
     → Reads (HasValues t) (IsPresent t) view r old now → Reads (HasValues d) (IsPresent d) view r old now
 extension-arm d t id metadata view r old now e h =
     subst (λ u. Reads (HasValues u) (IsPresent u) view r old now) (sym e)
@@ -185,7 +185,7 @@ none-entries k w = some-keys (EntriesValid k w) (no_raws, record { kind = tt; he
 pub entry-stuck : (has : Type 0) (k w : TypeTree) (old now : List ℕ) → IsStuck has (IsKey (IsPresent (entry_type k w))) old now → IsStuck has (IsKey (Valid (entry_type k w))) old now
 entry-stuck has k w old now stuck = present-stuck has (entry_type k w) old old now refl (λ n bs. absurd (cc)) stuck
 
-pub not-memory : {A : Type 0} (f : Fault) → f ≡ NoMemory → f ≡ Bad → A
+pub not-memory : {A : Type 0} (f : KeyDecodeError) → f ≡ NoMemory → f ≡ Bad → A
 not-memory f h k = absurd (cc)
 
 -- tuples
@@ -340,29 +340,29 @@ null-taken t old now b c e h taken k = null-read t old now (takes-null t b e h) 
 
 -- a part that is put to the others
 
-pub pushed : (has : Type 0) (One : RawTree → Type 0) (r : Result Unit Fault) (parts more : List (Option ScalarValue)) (part : Option ScalarValue) (old now : List ℕ) → HasRead One (raw_of part) old now
+pub pushed : (has : Type 0) (One : RawTree → Type 0) (r : Result Unit KeyDecodeError) (parts more : List (Option ScalarValue)) (part : Option ScalarValue) (old now : List ℕ) → HasRead One (raw_of part) old now
     → MatchResult r (λ u. more ≡ parts ++ part ∷ []) (λ e. e ≡ NoMemory) → Puts has One r parts more old now
 pushed has One (Ok u) parts more part old now h e = (part, e, h)
 pushed has One (Err f) parts more part old now h e = λ bad. not-memory f e bad
 
-pub puts-refused : (has : Type 0) (One : RawTree → Type 0) (r : Result Unit Fault) (e : Fault) (parts more : List (Option ScalarValue)) (old now : List ℕ) → IsErr r × IsErrAnd r (λ f. f ≡ e) → (e ≡ Bad → IsStuck has (IsKey One) old now)
+pub puts-refused : (has : Type 0) (One : RawTree → Type 0) (r : Result Unit KeyDecodeError) (e : KeyDecodeError) (parts more : List (Option ScalarValue)) (old now : List ℕ) → IsErr r × IsErrAnd r (λ f. f ≡ e) → (e ≡ Bad → IsStuck has (IsKey One) old now)
     → Puts has One r parts more old now
 puts-refused has One (Ok u) e parts more old now h g = absurd (true≢false (sym h.0))
 puts-refused has One (Err f) e parts more old now h g = λ bad. g (sym h.1 ∙ bad)
 
-pub puts-present : (has : Type 0) (t : TypeTree) (r : Result Unit Fault) (parts more : List (Option ScalarValue)) (old mid now : List ℕ) → mid ≡ old → (IsNullable t → (bs : List ℕ) → old ≢ 1 ∷ bs) → Puts has (IsPresent t) r parts more mid now
+pub puts-present : (has : Type 0) (t : TypeTree) (r : Result Unit KeyDecodeError) (parts more : List (Option ScalarValue)) (old mid now : List ℕ) → mid ≡ old → (IsNullable t → (bs : List ℕ) → old ≢ 1 ∷ bs) → Puts has (IsPresent t) r parts more mid now
     → Puts has (Valid t) r parts more old now
 puts-present has t (Ok u) parts more old mid now same other (part, e, h) = (part, e, present-read t (raw_of part) old mid now same h)
 puts-present has t (Err f) parts more old mid now same other h = λ bad. present-stuck has t old mid now same other (h bad)
 
-pub puts-arm : (any : Type 0) (d t : TypeTree) (r : Result Unit Fault) (parts more : List (Option ScalarValue)) (old now : List ℕ) → d ≡ t → (HasValues t → any) → Puts any (IsPresent (bare t)) r parts more old now
+pub puts-arm : (any : Type 0) (d t : TypeTree) (r : Result Unit KeyDecodeError) (parts more : List (Option ScalarValue)) (old now : List ℕ) → d ≡ t → (HasValues t → any) → Puts any (IsPresent (bare t)) r parts more old now
     → Puts (HasValues d) (IsPresent d) r parts more old now
 puts-arm any d t r parts more old now e weaker h = subst (λ u. Puts (HasValues u) (IsPresent u) r parts more old now) (sym e) (to_type r h)
   where
     same : SameValues (bare t) t
     same = record { to = from_bare t; from = to_bare t }
 
-    to_type : (r : Result Unit Fault) → Puts any (IsPresent (bare t)) r parts more old now → Puts (HasValues t) (IsPresent t) r parts more old now
+    to_type : (r : Result Unit KeyDecodeError) → Puts any (IsPresent (bare t)) r parts more old now → Puts (HasValues t) (IsPresent t) r parts more old now
     to_type (Ok u) (part, e, h) = (part, e, record { plain = record { kind = from_bare t (raw_of part) h.plain.kind; held = h.plain.held; untyped = h.plain.untyped }; is = h.is })
     to_type (Err f) h = λ bad. stuck-as (HasValues t) any (bare t) t old now same weaker (h bad)
 

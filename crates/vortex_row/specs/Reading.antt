@@ -10,8 +10,8 @@ use Rattle.vortex_value.specs.Values.RawTree.{RawTree, RawTrees, count, is_absen
 use Rattle.vortex_value.specs.declared.values.ScalarValue.{ScalarValue}
 use Rattle.vortex_row.specs.Held.{IsHeld, AreHeld}
 use Rattle.vortex_row.specs.Keys.{inverted, key, keys}
-use Rattle.vortex_row.specs.declared.reader.Fault.{Fault}
-use Rattle.vortex_row.specs.declared.reader.Fault.TheVariants.{Bad}
+use Rattle.vortex_row.specs.declared.reader.KeyDecodeError.{KeyDecodeError}
+use Rattle.vortex_row.specs.declared.reader.KeyDecodeError.TheVariants.{Bad}
 use Rattle.vortex_row.specs.declared.reader.Reader.{Reader}
 
 -- what is left to be read
@@ -83,15 +83,15 @@ pub record HaveRead (AreAll : RawTrees → Type 0) (vs : RawTrees) (old now : Li
   pub is : old ≡ keys (contents vs) ++ now
 
 -- a value of this kind is read, or memory is refused, or the bytes go on as no key of such a value
-abbrev pub Reads : {A : Type 0} → Type 0 → (RawTree → Type 0) → (A → RawTree) → Result A Fault → List ℕ → List ℕ → Type 0
+abbrev pub Reads : {A : Type 0} → Type 0 → (RawTree → Type 0) → (A → RawTree) → Result A KeyDecodeError → List ℕ → List ℕ → Type 0
 Reads has_values IsOne view r old now = MatchResult r (λ x. HasRead IsOne (view x) old now) (λ e. e ≡ Bad → IsStuck has_values (IsKey IsOne) old now)
 
 -- a value of this kind is read into its place, or memory is refused, or the bytes go on as no key of such a value
-abbrev pub ReadsInto : Type 0 → (RawTree → Type 0) → Result Unit Fault → RawTree → List ℕ → List ℕ → Type 0
+abbrev pub ReadsInto : Type 0 → (RawTree → Type 0) → Result Unit KeyDecodeError → RawTree → List ℕ → List ℕ → Type 0
 ReadsInto has_values IsOne r v old now = MatchResult r (λ u. HasRead IsOne v old now) (λ e. e ≡ Bad → IsStuck has_values (IsKey IsOne) old now)
 
 -- a value of this kind is read and put to the others, or memory is refused, or the bytes go on as no key of such a value
-abbrev pub Puts : Type 0 → (RawTree → Type 0) → Result Unit Fault → List (Option ScalarValue) → List (Option ScalarValue) → List ℕ → List ℕ → Type 0
+abbrev pub Puts : Type 0 → (RawTree → Type 0) → Result Unit KeyDecodeError → List (Option ScalarValue) → List (Option ScalarValue) → List ℕ → List ℕ → Type 0
 Puts has_values IsOne r parts more old now =
     MatchResult r (λ u. (part : Option ScalarValue) × (more ≡ parts ++ part ∷ []) × HasRead IsOne (raw_of part) old now) (λ e. e ≡ Bad → IsStuck has_values (IsKey IsOne) old now)
 

@@ -8,8 +8,10 @@ mod texts;
 mod values;
 
 ghost use Rattle.std.specs.Prelude.{◌≡◌, ◌≢◌, ◌↔◌, ◌⊎◌, ℕ, List, Err, IfErr, IfOk, OnOk, length};
-ghost use Rattle.vortex_row.specs.Decoded.{BeginsWithKey, BeginsWithRow, DecodesInto, DecodesRowTo, DecodesTo, IsDecoded, IsDecodedRow, IsFirstBad, IsKeyOf, IsRowKeyOf};
-ghost use Rattle.vortex_row.specs.Words.{AllHaveVariants, BadKey, HasNoVariant, HasVariant, HaveNoVariant, OutOfMemory, RawTree, UnionsHaveVariants, WrongLength, dtype_trees, type_of};
+ghost use Rattle.vortex_row.specs.Decoded.{BeginsWithKey, BeginsWithRow, DecodesInto, DecodesRowTo, DecodesTo};
+ghost use Rattle.vortex_row.specs.Decoded.{IsDecoded, IsDecodedRow, IsFirstBad, IsKeyOf, IsRowKeyOf};
+ghost use Rattle.vortex_row.specs.Words.{AllHaveVariants, BadKey, HasNoVariant, HasVariant, HaveNoVariant, OutOfMemory};
+ghost use Rattle.vortex_row.specs.Words.{RawTree, UnionsHaveVariants, WrongLength, dtype_trees, type_of};
 
 use crate::error::RowError;
 use crate::options::SortOptions;
@@ -26,8 +28,8 @@ use vortex_value::laws::one_value;
 ///
 /// `HasVariant` exactly if a variant stands in the type, at any depth. Else `BadKey` if the bytes
 /// begin with no key of a value of the type: its offset is that of the first byte that no such key
-/// has there, or of the end if they end too early. `OutOfMemory` may come in place of each answer
-/// but `HasVariant`.
+/// has there, or of the end if they end too early. If a union without variants stands in the type,
+/// it may be that of a later byte. `OutOfMemory` may come in place of each answer but `HasVariant`.
 #[tactic(auto, using(crate::proofs::DecodeSteps::answers))]
 pub fn decode_key(
     alloc: Global,
@@ -90,8 +92,9 @@ pub fn decode_key_into(
 /// `WrongLength` exactly if there are not as many types as options, before all else; then
 /// `HasVariant` exactly if a variant stands in one of the types, at any depth. Else `BadKey` if the
 /// bytes begin with no key of a row of values of the types: its offset is that of the first byte
-/// that no such key has there, or of the end if they end too early. `OutOfMemory` may come in place
-/// of each answer but the first two refusals.
+/// that no such key has there, or of the end if they end too early. If a union without variants
+/// stands in one of the types, it may be that of a later byte. `OutOfMemory` may come in place of
+/// each answer but the first two refusals.
 #[tactic(auto, using(crate::proofs::RowDecodeSteps::answers))]
 pub fn decode_row_key(
     alloc: Global,

@@ -2,7 +2,8 @@
 #![tactic(auto, using(crate::proofs::KeySteps::shown))]
 
 ghost use Rattle.std.specs.Prelude.{◌+◌, ◌++◌, ◌≡◌, ◌≤◌, ◌↔◌, ◌⊎◌, ◌<◌, Err, IfErr, IsOk, OnErr, OnOk, length};
-ghost use Rattle.vortex_row.specs.Words.{HasAppended, HasNoVariant, HasVariant, IsHeld, OutOfMemory, capped, key, key_with, nat_cmp, ref_content, ref_type, slice_cmp, vec_capacity, vec_len};
+ghost use Rattle.vortex_row.specs.Words.{HasAppended, HasNoVariant, HasVariant, IsHeld, OutOfMemory, capped, key};
+ghost use Rattle.vortex_row.specs.Words.{key_with, nat_cmp, ref_content, ref_type, slice_cmp, vec_capacity, vec_len};
 
 use crate::encode::put_column;
 use crate::error::RowError;

@@ -3,7 +3,8 @@
 //! These functions do nothing when they run. The contract of each is a law over the definitions in
 //! `specs/`, and its proof is the law's proof.
 
-ghost use Rattle.vortex_row.specs.Words.{CastsKeepKeys, KeysAreApart, KeysAreOrdered, OrderIsContentOrder, ValuesHaveNoTyped};
+ghost use Rattle.vortex_row.specs.Words.{CastsKeepKeys, KeysAreApart, KeysAreOrdered, OrderIsContentOrder};
+ghost use Rattle.vortex_row.specs.Words.{ValuesHaveNoTyped};
 
 /// Keys compare, byte by byte, as the contents do in their total order: one by one, in a column
 /// under any options, and as rows of several columns, the first that differs deciding.

@@ -1,7 +1,8 @@
 //! How many bytes keys have, so that memory for them is taken once.
 
 ghost use Rattle.std.specs.Prelude.{[], ◌++◌, ◌+◌, ◌≡◌, ◌≤◌, ◌∷◌, drop, length, pos, true, unsigned_abs};
-ghost use Rattle.vortex_row.specs.Words.{big_endian, capped, content, contents, escaped, key, keys, lent_raw, number_bytes, union_tree, value_tree, value_trees, whole_key, whole_of};
+ghost use Rattle.vortex_row.specs.Words.{big_endian, capped, content, contents, escaped, key, keys, lent_raw};
+ghost use Rattle.vortex_row.specs.Words.{number_bytes, union_tree, value_tree, value_trees, whole_key, whole_of};
 
 use crate::tags::PLAIN;
 use vortex_dtype::ByteBuffer;

@@ -1,6 +1,7 @@
 //! Bytes that are read from the front.
 
-ghost use Rattle.std.specs.Prelude.{◌≡◌, ◌≤◌, ◌≢◌, ℕ, List, [], ◌∷◌, MatchOption, MatchResult, drop, false, true, length, take};
+ghost use Rattle.std.specs.Prelude.{◌≡◌, ◌≤◌, ◌≢◌, ℕ, List, [], ◌∷◌, MatchOption, MatchResult, drop, false, true};
+ghost use Rattle.std.specs.Prelude.{length, take};
 ghost use Rattle.vortex_row.specs.Held.{AreBytes};
 ghost use Rattle.vortex_row.specs.Bytes.{inverted_again, inverted_byte};
 ghost use Rattle.vortex_row.specs.Steps.{inverted_word};
@@ -10,30 +11,30 @@ use vortex_dtype::VortexError;
 
 /// Why nothing was read.
 #[derive(Clone, Copy)]
-pub(crate) enum Fault {
+pub(crate) enum KeyDecodeError {
     /// An allocation was refused.
     NoMemory,
     /// The next byte, or the end, comes next in no key of the type.
     Bad,
 }
 
-impl From<AllocError> for Fault {
-    ghost use Rattle.vortex_row.specs.declared.reader.Fault.TheVariants.{NoMemory};
+impl From<AllocError> for KeyDecodeError {
+    ghost use Rattle.vortex_row.specs.declared.reader.KeyDecodeError.TheVariants.{NoMemory};
 
     ghost from_gives = { λ _ e. e ≡ NoMemory };
 
-    fn from(_error: AllocError) -> Fault {
-        Fault::NoMemory
+    fn from(_error: AllocError) -> KeyDecodeError {
+        KeyDecodeError::NoMemory
     }
 }
 
-impl<T: Drop> From<AllocFailed<T>> for Fault {
-    ghost use Rattle.vortex_row.specs.declared.reader.Fault.TheVariants.{NoMemory};
+impl<T: Drop> From<AllocFailed<T>> for KeyDecodeError {
+    ghost use Rattle.vortex_row.specs.declared.reader.KeyDecodeError.TheVariants.{NoMemory};
 
     ghost from_gives = { λ _ e. e ≡ NoMemory };
 
-    fn from(_error: AllocFailed<T>) -> Fault {
-        Fault::NoMemory
+    fn from(_error: AllocFailed<T>) -> KeyDecodeError {
+        KeyDecodeError::NoMemory
     }
 }
 
@@ -130,7 +131,7 @@ impl Reader<'_> {
 
     /// Takes this byte. `Bad` if another comes next, or none.
     #[inline(always)]
-    pub(crate) fn take(&mut self, byte: u8) -> Result<(), Fault>
+    pub(crate) fn take(&mut self, byte: u8) -> Result<(), KeyDecodeError>
         ensures { MatchResult result (λ _. left self.old ≡ byte ∷ left self.new)
             (λ e. (left self.new ≡ left self.old)
             × ((bs : List ℕ) → left self.old ≢ byte ∷ bs)) }
@@ -138,7 +139,7 @@ impl Reader<'_> {
         if self.takes(byte) {
             Ok(())
         } else {
-            Err(Fault::Bad)
+            Err(KeyDecodeError::Bad)
         }
     }
 

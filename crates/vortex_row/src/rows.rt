@@ -1,8 +1,11 @@
 //! The keys of rows: those of the columns, one after the other.
 #![tactic(auto, using(crate::proofs::RowSteps::shown))]
 
-ghost use Rattle.std.specs.Prelude.{◌+◌, ◌++◌, ◌<◌, ◌≡◌, ◌≢◌, ◌≤◌, ◌↔◌, ◌⊎◌, Err, IfErr, IfOk, IsOk, OnErr, OnOk, length, map, take};
-ghost use Rattle.vortex_row.specs.Words.{All, HasNoVariant, HasSlot, HasVariant, HaveNoVariant, IsHeld, OutOfMemory, WrongLength, capped, dtype_trees, encoder_options, encoder_types, keys_length, ref_content, ref_type, row_key, type_of, vec_capacity, vec_len, Writes};
+ghost use Rattle.std.specs.Prelude.{◌+◌, ◌++◌, ◌<◌, ◌≡◌, ◌≢◌, ◌≤◌, ◌↔◌, ◌⊎◌, Err, IfErr, IfOk, IsOk, OnErr, OnOk};
+ghost use Rattle.std.specs.Prelude.{length, map, take};
+ghost use Rattle.vortex_row.specs.Words.{All, HasNoVariant, HasSlot, HasVariant, HaveNoVariant, IsHeld, OutOfMemory};
+ghost use Rattle.vortex_row.specs.Words.{WrongLength, capped, dtype_trees, encoder_options, encoder_types, keys_length};
+ghost use Rattle.vortex_row.specs.Words.{ref_content, ref_type, row_key, type_of, vec_capacity, vec_len, Writes};
 
 use crate::encode::put_column;
 use crate::error::RowError;

@@ -1,8 +1,11 @@
 //! Scalars viewed as what their types say.
 
 ghost use Rattle.std.specs.Prelude.{◌≡◌, true, is_some, IfSome};
-ghost use Rattle.vortex_views.specs.Words.{IsRefOf, RawTree, TypeTree, Valid, element_in, fields_in, is_binary_type, is_bool_type, is_extension_type, is_map_type, is_union_type, is_utf8_type, is_variant_type, ptype_in, scalar_raw, scalar_type};
-ghost use Rattle.vortex_views.specs.ViewWords.{IsBoolViewOf, IsNumberViewOf, bytes_ref, ext_ref, list_ref, map_ref, struct_ref, text_ref, union_ref, variant_ref};
+ghost use Rattle.vortex_views.specs.Words.{IsRefOf, RawTree, TypeTree, Valid, element_in, fields_in, is_binary_type};
+ghost use Rattle.vortex_views.specs.Words.{is_bool_type, is_extension_type, is_map_type, is_union_type, is_utf8_type};
+ghost use Rattle.vortex_views.specs.Words.{is_variant_type, ptype_in, scalar_raw, scalar_type};
+ghost use Rattle.vortex_views.specs.ViewWords.{IsBoolViewOf, IsNumberViewOf, bytes_ref, ext_ref, list_ref, map_ref};
+ghost use Rattle.vortex_views.specs.ViewWords.{struct_ref, text_ref, union_ref, variant_ref};
 
 use crate::extension::ExtScalar;
 use crate::list::ListScalar;

@@ -1,7 +1,9 @@
 //! Views of extensions.
 
 ghost use Rattle.std.specs.Prelude.{◌≡◌, Some, is_some, true, IfErr, IfOk, IfSome, IsOk, IsTrue};
-ghost use Rattle.vortex_views.specs.Words.{GivesView, IsFlat, IsMadeOf, IsRefOf, IsValid, IsValidRef, OutOfMemory, ext_of, extension_in, is_nested, is_of_kind, lent_raw, ref_order, ref_type, scalar_raw, scalar_type, storage, type_of, value_tree};
+ghost use Rattle.vortex_views.specs.Words.{GivesView, IsFlat, IsMadeOf, IsRefOf, IsValid, IsValidRef, OutOfMemory};
+ghost use Rattle.vortex_views.specs.Words.{ext_of, extension_in, is_nested, is_of_kind, lent_raw, ref_order, ref_type};
+ghost use Rattle.vortex_views.specs.Words.{scalar_raw, scalar_type, storage, type_of, value_tree};
 
 use std::alloc::Global;
 use std::cmp::Ordering;

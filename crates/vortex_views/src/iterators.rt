@@ -2,7 +2,8 @@
 //! is none for it, and goes on to the part after it either way.
 
 ghost use Rattle.std.specs.Prelude.{◌≡◌, length, map};
-ghost use Rattle.vortex_views.specs.Words.{NeedNoMemory, NeedsNoMemory, YieldsFirstBy, entry_of, item_count, map_of, raw_of, ref_entry, ref_part, scalar_entry, scalar_part, type_of, zip};
+ghost use Rattle.vortex_views.specs.Words.{NeedNoMemory, NeedsNoMemory, YieldsFirstBy, entry_of, item_count, map_of};
+ghost use Rattle.vortex_views.specs.Words.{raw_of, ref_entry, ref_part, scalar_entry, scalar_part, type_of, zip};
 ghost use Rattle.vortex_views.specs.ViewWords.{YieldsCopies, entries_left, fields_left, keys_left, values_left};
 
 use crate::parts::{copy_entry, copy_part, lent_entry};

@@ -3,8 +3,10 @@
 //! These functions do nothing when they run. The contract of each is a law over the definitions in
 //! `specs/`, and its proof is the law's proof.
 
-ghost use Rattle.vortex_views.specs.Words.{AgreesWithHash, EqualsAsViewed, IsEquivalence, OrderAgreesAsViewed, scalar_entry, scalar_part};
-ghost use Rattle.vortex_views.specs.ViewWords.{GivesEachPart, entries_left, ext_ref, fields_left, keys_left, list_ref, map_ref, struct_ref, union_ref, values_left};
+ghost use Rattle.vortex_views.specs.Words.{AgreesWithHash, EqualsAsViewed, IsEquivalence, OrderAgreesAsViewed};
+ghost use Rattle.vortex_views.specs.Words.{scalar_entry, scalar_part};
+ghost use Rattle.vortex_views.specs.ViewWords.{GivesEachPart, entries_left, ext_ref, fields_left, keys_left, list_ref};
+ghost use Rattle.vortex_views.specs.ViewWords.{map_ref, struct_ref, union_ref, values_left};
 
 use crate::extension::ExtScalar;
 use crate::iterators::{Entries, Fields, Keys, Values};

@@ -1,7 +1,11 @@
 //! Views of lists, of fixed size or not.
 
-ghost use Rattle.std.specs.Prelude.{◌≡◌, ◌==◌, ◌<◌, Some, true, length, map, option_map, slice_get, is_some, All, IfErr, IfOk, IfSome, IsTrue, MatchResult};
-ghost use Rattle.vortex_views.specs.Words.{AnswersRefView, CopiesPartOf, GivesView, IsRefOf, IsValid, IsValidRef, OutOfMemory, element_in, elements_of, is_absent, is_null_or_tuple, lent_raw, parts_of, raw_of, ref_order, ref_part, ref_type, scalar_part, scalar_raw, scalar_type, type_of, unless_null};
+ghost use Rattle.std.specs.Prelude.{◌≡◌, ◌==◌, ◌<◌, Some, true, length, map, option_map, slice_get, is_some, All};
+ghost use Rattle.std.specs.Prelude.{IfErr, IfOk, IfSome, IsTrue, MatchResult};
+ghost use Rattle.vortex_views.specs.Words.{AnswersRefView, CopiesPartOf, GivesView, IsRefOf, IsValid, IsValidRef};
+ghost use Rattle.vortex_views.specs.Words.{OutOfMemory, element_in, elements_of, is_absent, is_null_or_tuple, lent_raw};
+ghost use Rattle.vortex_views.specs.Words.{parts_of, raw_of, ref_order, ref_part, ref_type, scalar_part, scalar_raw};
+ghost use Rattle.vortex_views.specs.Words.{scalar_type, type_of, unless_null};
 
 use crate::parts::{copy_part_if_any, is_null_or_tuple, items_of, part_at};
 use std::alloc::Global;

@@ -1,7 +1,11 @@
 //! Views of maps.
 
-ghost use Rattle.std.specs.Prelude.{◌≡◌, ◌==◌, Some, true, length, map, option_map, slice_get, is_some, All, IfSome, IsTrue};
-ghost use Rattle.vortex_views.specs.Words.{AnswersRefView, AreValidParts, CopiesEntryOf, GivesView, IsRefOf, IsValidPart, IsValidRef, entries_of, is_absent, is_null_or_tuple, lent_raw, map_in, map_of, parts_of, raw_of, ref_entry, ref_type, scalar_raw, scalar_type, type_of};
+ghost use Rattle.std.specs.Prelude.{◌≡◌, ◌==◌, Some, true, length, map, option_map, slice_get, is_some, All, IfSome};
+ghost use Rattle.std.specs.Prelude.{IsTrue};
+ghost use Rattle.vortex_views.specs.Words.{AnswersRefView, AreValidParts, CopiesEntryOf, GivesView, IsRefOf};
+ghost use Rattle.vortex_views.specs.Words.{IsValidPart, IsValidRef, entries_of, is_absent, is_null_or_tuple, lent_raw};
+ghost use Rattle.vortex_views.specs.Words.{map_in, map_of, parts_of, raw_of, ref_entry, ref_type, scalar_raw};
+ghost use Rattle.vortex_views.specs.Words.{scalar_type, type_of};
 
 use crate::iterators::{Entries, Keys, Values};
 use crate::parts::{copy_entry_if_any, entry_at, is_null_or_tuple, items_of};
@@ -20,7 +24,8 @@ pub struct MapScalar<'a> {
 }
 
 impl<'a> MapScalar<'a> {
-    ghost use Rattle.vortex_views.specs.ViewWords.{entries_left, keys_left, map_ref, map_view_raw, map_view_type, values_left, viewed_map};
+    ghost use Rattle.vortex_views.specs.ViewWords.{entries_left, keys_left, map_ref, map_view_raw, map_view_type};
+    ghost use Rattle.vortex_views.specs.ViewWords.{values_left, viewed_map};
 
     /// The view of a type and a raw value as a map. `None` is the null.
     ///

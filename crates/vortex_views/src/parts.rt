@@ -1,7 +1,9 @@
 //! The parts of values: how views find, lend and copy them.
 
 ghost use Rattle.std.specs.Prelude.{◌≡◌, IfSome, IsOk, map, option_map, slice_get};
-ghost use Rattle.vortex_views.specs.Words.{CopiesEntry, CopiesPart, GivesCopy, IsValidRef, NeedNoMemory, NeedsNoMemory, entry_of, is_null_or_tuple, lent_raw, map_of, part_or_null, parts_of, raw_of, ref_entry, ref_part, scalar_entry, scalar_part, type_of};
+ghost use Rattle.vortex_views.specs.Words.{CopiesEntry, CopiesPart, GivesCopy, IsValidRef, NeedNoMemory, NeedsNoMemory};
+ghost use Rattle.vortex_views.specs.Words.{entry_of, is_null_or_tuple, lent_raw, map_of, part_or_null, parts_of};
+ghost use Rattle.vortex_views.specs.Words.{raw_of, ref_entry, ref_part, scalar_entry, scalar_part, type_of};
 
 use std::alloc::Global;
 use vortex_dtype::{DType, MapDType, VortexError};

@@ -1,7 +1,13 @@
 //! Views of structs.
 
-ghost use Rattle.std.specs.Prelude.{◌≡◌, Ok, Some, true, is_none, is_some, map, option_map, slice_get, All, IfErr, IfOk, IfSome, IsErrAnd, IsTrue, MatchOption, MatchResult};
-ghost use Rattle.vortex_views.specs.Words.{AnswersCast, CopiesPartOf, GivesView, IsProjectedType, IsProjectedValue, IsRefOf, IsValid, IsValidPart, IsValidRef, OutOfMemory, RefusesExactly, RefusesOrNoMemory, counts_cause, field_named, fields_in, fields_of, fields_within, is_absent, is_null_or_tuple, lent_raw, names_in, parts_of, raw_of, ref_order, ref_part, ref_type, scalar_raw, scalar_type, selection_cause, struct_cast_cause, type_of, value_named, zip};
+ghost use Rattle.std.specs.Prelude.{◌≡◌, Ok, Some, true, is_none, is_some, map, option_map, slice_get, All, IfErr};
+ghost use Rattle.std.specs.Prelude.{IfOk, IfSome, IsErrAnd, IsTrue, MatchOption, MatchResult};
+ghost use Rattle.vortex_views.specs.Words.{AnswersCast, CopiesPartOf, GivesView, IsProjectedType, IsProjectedValue};
+ghost use Rattle.vortex_views.specs.Words.{IsRefOf, IsValid, IsValidPart, IsValidRef, OutOfMemory, RefusesExactly};
+ghost use Rattle.vortex_views.specs.Words.{RefusesOrNoMemory, counts_cause, field_named, fields_in, fields_of};
+ghost use Rattle.vortex_views.specs.Words.{fields_within, is_absent, is_null_or_tuple, lent_raw, names_in, parts_of};
+ghost use Rattle.vortex_views.specs.Words.{raw_of, ref_order, ref_part, ref_type, scalar_raw, scalar_type};
+ghost use Rattle.vortex_views.specs.Words.{selection_cause, struct_cast_cause, type_of, value_named, zip};
 
 use crate::iterators::Fields;
 use crate::parts::{copy_part_if_any, is_null_or_tuple, item_or_null, items_of, part_at};
@@ -20,7 +26,8 @@ pub struct StructScalar<'a> {
 }
 
 impl<'a> StructScalar<'a> {
-    ghost use Rattle.vortex_views.specs.ViewWords.{fields_left, struct_ref, struct_view_raw, struct_view_type, viewed_struct};
+    ghost use Rattle.vortex_views.specs.ViewWords.{fields_left, struct_ref, struct_view_raw, struct_view_type};
+    ghost use Rattle.vortex_views.specs.ViewWords.{viewed_struct};
 
     /// The type.
     pub fn dtype(&self) -> &'a DType

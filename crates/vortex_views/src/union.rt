@@ -1,7 +1,9 @@
 //! Views of unions.
 
 ghost use Rattle.std.specs.Prelude.{◌≡◌, true, option_map, IfNone, IfOk, IfSome, MatchOption};
-ghost use Rattle.vortex_views.specs.Words.{AnswersRefView, CopiesPartOf, IsRefOf, IsValidRef, absent, is_absent, is_of_union, is_union_type, lent_raw, nullability_of, ref_part, ref_raw, ref_type, type_of, union_tree, union_type_of, variants_of};
+ghost use Rattle.vortex_views.specs.Words.{AnswersRefView, CopiesPartOf, IsRefOf, IsValidRef, absent, is_absent};
+ghost use Rattle.vortex_views.specs.Words.{is_of_union, is_union_type, lent_raw, nullability_of, ref_part, ref_raw};
+ghost use Rattle.vortex_views.specs.Words.{ref_type, type_of, union_tree, union_type_of, variants_of};
 
 use crate::parts::copy_part_if_any;
 use std::alloc::Global;
@@ -22,7 +24,8 @@ pub struct UnionScalar<'a> {
 
 #[tactic(auto, using(crate::proofs::UnionSteps::steps))]
 impl<'a> UnionScalar<'a> {
-    ghost use Rattle.vortex_views.specs.ViewWords.{IsNamedUnion, child_of, chosen_name, chosen_place, chosen_type, id_of, union_ref, union_view_raw, union_view_type, viewed_union};
+    ghost use Rattle.vortex_views.specs.ViewWords.{IsNamedUnion, child_of, chosen_name, chosen_place, chosen_type};
+    ghost use Rattle.vortex_views.specs.ViewWords.{id_of, union_ref, union_view_raw, union_view_type, viewed_union};
 
     /// The view of a type and a raw value as a union. `None` is the null.
     ///

@@ -1,7 +1,8 @@
 //! Views of variants.
 
 ghost use Rattle.std.specs.Prelude.{◌≡◌, true, option_map, IfNone, IfSome, Some};
-ghost use Rattle.vortex_views.specs.Words.{IsRefOf, IsValid, IsValidRef, absent, is_absent, is_of_variant, is_zero_of, ref_content, ref_raw, ref_text, ref_type, scalar_part, type_of};
+ghost use Rattle.vortex_views.specs.Words.{IsRefOf, IsValid, IsValidRef, absent, is_absent, is_of_variant, is_zero_of};
+ghost use Rattle.vortex_views.specs.Words.{ref_content, ref_raw, ref_text, ref_type, scalar_part, type_of};
 
 use std::fmt::{self, Display, Formatter, Write};
 use vortex_dtype::DType;
@@ -17,7 +18,8 @@ pub struct VariantScalar<'a> {
 }
 
 impl<'a> VariantScalar<'a> {
-    ghost use Rattle.vortex_views.specs.ViewWords.{inner_of, is_inner_null, variant_ref, variant_view_raw, variant_view_type};
+    ghost use Rattle.vortex_views.specs.ViewWords.{inner_of, is_inner_null, variant_ref, variant_view_raw};
+    ghost use Rattle.vortex_views.specs.ViewWords.{variant_view_type};
 
     /// A borrowed scalar, viewed as a variant. The caller knows that it is one.
     ///

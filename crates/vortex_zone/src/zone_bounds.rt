@@ -1,7 +1,9 @@
 //! The bounds of a zone.
 
 ghost use Rattle.std.specs.Prelude.{◌≡◌, ◌≢◌, ◌≤◌, List, IfErr, IfNone, IfOk, IfSome, Err};
-ghost use Rattle.vortex_zone.specs.Words.{AreBoundsOf, AreBoundsOfKind, IsLongerThan, IsOfKind, IsValid, LosesNothing, NonNullable, OutOfMemory, Same, Stops, may_hold, option_copied, refusal, scalar_type};
+ghost use Rattle.vortex_zone.specs.Words.{AreBoundsOf, AreBoundsOfKind, IsLongerThan, IsOfKind, IsValid, LosesNothing};
+ghost use Rattle.vortex_zone.specs.Words.{NonNullable, OutOfMemory, Same, Stops, may_hold, option_copied, refusal};
+ghost use Rattle.vortex_zone.specs.Words.{scalar_type};
 
 use std::alloc::Global;
 use std::cmp::Ordering;

@@ -1,14 +1,16 @@
 //! Scalars of columns and of rows from their keys.
 
 ghost use Rattle.std.specs.Prelude.{◌≡◌, ◌≢◌, ◌≤◌, ◌∷◌, ℕ, List, MatchResult, false, length, true};
-ghost use Rattle.vortex_row.specs.ColumnReading.{AreColumnKeys, HasColumn, HasColumnAt, HasRow, IsColumnKey, IsRefusal, IsRefusalAt};
+ghost use Rattle.vortex_row.specs.ColumnReading.{AreColumnKeys, HasColumn, HasColumnAt, HasRow, IsColumnKey, IsRefusal};
+ghost use Rattle.vortex_row.specs.ColumnReading.{IsRefusalAt};
 ghost use Rattle.vortex_row.specs.Reading.{AllHaveValues, HasValues};
-ghost use Rattle.vortex_row.specs.Words.{IsNullable, OutOfMemory, absent, dtype_trees, null_byte, raw_of, scalar_raw, scalar_type, type_of};
+ghost use Rattle.vortex_row.specs.Words.{IsNullable, OutOfMemory, absent, dtype_trees, null_byte, raw_of, scalar_raw};
+ghost use Rattle.vortex_row.specs.Words.{scalar_type, type_of};
 
 use super::values::read_into;
 use crate::error::RowError;
 use crate::options::SortOptions;
-use crate::reader::{Fault, Reader, bytes_from};
+use crate::reader::{KeyDecodeError, Reader, bytes_from};
 use crate::tags::null_byte;
 use std::alloc::Global;
 use vortex_dtype::DType;
@@ -56,8 +58,8 @@ fn read_column(
     let taken = bytes.len().saturating_sub(reader.rest.len());
     match answer {
         Ok(()) => Ok(taken),
-        Err(Fault::NoMemory) => Err(RowError::OutOfMemory),
-        Err(Fault::Bad) => Err(RowError::BadKey { offset: taken }),
+        Err(KeyDecodeError::NoMemory) => Err(RowError::OutOfMemory),
+        Err(KeyDecodeError::Bad) => Err(RowError::BadKey { offset: taken }),
     }
 }
 

@@ -1,11 +1,12 @@
 //! Values without parts from their keys.
 
 ghost use Rattle.vortex_row.specs.Reading.{IsPresent, Reads, ReadsInto, left};
-ghost use Rattle.vortex_row.specs.Words.{NonNullable, binary_type, bool_type, integer_type, raw_of, utf8_type, value_tree};
+ghost use Rattle.vortex_row.specs.Words.{NonNullable, binary_type, bool_type, integer_type, raw_of, utf8_type};
+ghost use Rattle.vortex_row.specs.Words.{value_tree};
 
 use super::numbers::read_number;
 use super::strings::{read_bytes, read_text};
-use crate::reader::{Fault, Reader};
+use crate::reader::{KeyDecodeError, Reader};
 use crate::tags::{FALSE, STRING, TEXT, TRUE};
 use std::alloc::Global;
 use vortex_dtype::PType;
@@ -13,7 +14,7 @@ use vortex_value::ScalarValue;
 
 /// A truth value.
 #[tactic(auto, using(crate::proofs::LeafSteps::shown))]
-pub(super) fn read_truth(reader: &mut Reader<'_>) -> Result<ScalarValue, Fault>
+pub(super) fn read_truth(reader: &mut Reader<'_>) -> Result<ScalarValue, KeyDecodeError>
     ensures { Reads (Unit {0}) (IsPresent (bool_type NonNullable)) value_tree
         result (left reader.old) (left reader.new) }
 {
@@ -22,13 +23,16 @@ pub(super) fn read_truth(reader: &mut Reader<'_>) -> Result<ScalarValue, Fault>
     } else if reader.takes(TRUE) {
         Ok(ScalarValue::Bool(true))
     } else {
-        Err(Fault::Bad)
+        Err(KeyDecodeError::Bad)
     }
 }
 
 /// A number of the kind.
 #[tactic(auto, using(crate::proofs::LeafSteps::shown))]
-pub(super) fn read_primitive(ptype: PType, reader: &mut Reader<'_>) -> Result<ScalarValue, Fault>
+pub(super) fn read_primitive(
+    ptype: PType,
+    reader: &mut Reader<'_>,
+) -> Result<ScalarValue, KeyDecodeError>
     ensures { Reads (Unit {0}) (IsPresent (integer_type ptype NonNullable)) value_tree
         result (left reader.old) (left reader.new) }
 {
@@ -40,7 +44,10 @@ pub(super) fn read_primitive(ptype: PType, reader: &mut Reader<'_>) -> Result<Sc
 
 /// A text.
 #[tactic(auto, using(crate::proofs::LeafSteps::shown))]
-pub(super) fn read_utf8(alloc: Global, reader: &mut Reader<'_>) -> Result<ScalarValue, Fault>
+pub(super) fn read_utf8(
+    alloc: Global,
+    reader: &mut Reader<'_>,
+) -> Result<ScalarValue, KeyDecodeError>
     ensures { Reads (Unit {0}) (IsPresent (utf8_type NonNullable)) value_tree
         result (left reader.old) (left reader.new) }
 {
@@ -50,7 +57,10 @@ pub(super) fn read_utf8(alloc: Global, reader: &mut Reader<'_>) -> Result<Scalar
 
 /// A string of bytes.
 #[tactic(auto, using(crate::proofs::LeafSteps::shown))]
-pub(super) fn read_binary(alloc: Global, reader: &mut Reader<'_>) -> Result<ScalarValue, Fault>
+pub(super) fn read_binary(
+    alloc: Global,
+    reader: &mut Reader<'_>,
+) -> Result<ScalarValue, KeyDecodeError>
     ensures { Reads (Unit {0}) (IsPresent (binary_type NonNullable)) value_tree
         result (left reader.old) (left reader.new) }
 {
@@ -64,7 +74,7 @@ pub(super) fn put_number(
     ptype: PType,
     reader: &mut Reader<'_>,
     place: &mut Option<ScalarValue>,
-) -> Result<(), Fault>
+) -> Result<(), KeyDecodeError>
     ensures { ReadsInto (Unit {0}) (IsPresent (integer_type ptype NonNullable)) result
         (raw_of place.new) (left reader.old) (left reader.new) }
 {
@@ -80,7 +90,7 @@ pub(super) fn put_text(
     alloc: Global,
     reader: &mut Reader<'_>,
     place: &mut Option<ScalarValue>,
-) -> Result<(), Fault>
+) -> Result<(), KeyDecodeError>
     ensures { ReadsInto (Unit {0}) (IsPresent (utf8_type NonNullable)) result
         (raw_of place.new) (left reader.old) (left reader.new) }
 {

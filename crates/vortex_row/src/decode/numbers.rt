@@ -1,12 +1,15 @@
 //! Numbers from their keys.
 
-ghost use Rattle.std.specs.Prelude.{◌≡◌, ◌-◌, ◌≤◌, ◌<◌, ℕ, List, IfErr, IfSome, MatchOption, MatchResult, drop, false, length, take, true};
-ghost use Rattle.vortex_row.specs.Numbers.{GoesOnAs, HasDistance, HasLimits, HasMagnitude, IsMagnitude, IsSide, number_tree, whole_at};
+ghost use Rattle.std.specs.Prelude.{◌≡◌, ◌-◌, ◌≤◌, ◌<◌, ℕ, List, IfErr, IfSome, MatchOption, MatchResult, drop, false};
+ghost use Rattle.std.specs.Prelude.{length, take, true};
+ghost use Rattle.vortex_row.specs.Numbers.{GoesOnAs, HasDistance, HasLimits, HasMagnitude, IsMagnitude, IsSide};
+ghost use Rattle.vortex_row.specs.Numbers.{number_tree, whole_at};
 ghost use Rattle.vortex_row.specs.Reading.{HasRead, IsInverted, IsKey, IsPresent, IsStuck, NoneBegins, Reads, left};
-ghost use Rattle.vortex_row.specs.Words.{InRange, IsNumber, NonNullable, big_endian, integer_type, inverted, ptype_of, raw_integer, whole_of};
+ghost use Rattle.vortex_row.specs.Words.{InRange, IsNumber, NonNullable, big_endian, integer_type, inverted, ptype_of};
+ghost use Rattle.vortex_row.specs.Words.{raw_integer, whole_of};
 
 use crate::reader::{
-    Fault, Reader, are_bytes, bytes_from, inverted_again, inverted_if, inverted_word,
+    KeyDecodeError, Reader, are_bytes, bytes_from, inverted_again, inverted_if, inverted_word,
 };
 use crate::tags::{GREATEST, LEAST, ZERO};
 use vortex_dtype::PType;
@@ -177,7 +180,7 @@ fn magnitude_at_once(bytes: &[u8], invert: bool, width: u8) -> Option<u64>
 }
 
 /// How far the number is from 0.
-fn read_distance(form: Form, reader: &mut Reader<'_>) -> Result<u64, Fault>
+fn read_distance(form: Form, reader: &mut Reader<'_>) -> Result<u64, KeyDecodeError>
     requires { form.width ≤ 8 }
     ensures { MatchResult result
         (λ number. HasDistance form.below form.width form.limit number
@@ -194,7 +197,7 @@ fn read_distance(form: Form, reader: &mut Reader<'_>) -> Result<u64, Fault>
         }
         Err(place) => {
             reader.advance(place);
-            Err(Fault::Bad)
+            Err(KeyDecodeError::Bad)
         }
     }
 }
@@ -256,15 +259,15 @@ fn number_at_once(ptype: PType, bytes: &[u8], invert: bool) -> Option<(PValue, u
 
 /// A number of the kind, byte by byte.
 #[inline(never)]
-fn number_by_bytes(ptype: PType, reader: &mut Reader<'_>) -> Result<PValue, Fault>
+fn number_by_bytes(ptype: PType, reader: &mut Reader<'_>) -> Result<PValue, KeyDecodeError>
     ensures { Reads (Unit {0}) (IsPresent (integer_type ptype NonNullable)) number_tree
         result (left reader.old) (left reader.new) }
 {
     let Some(head) = reader.first() else {
-        return Err(Fault::Bad);
+        return Err(KeyDecodeError::Bad);
     };
     let Some(form) = form_after(head, ptype) else {
-        return Err(Fault::Bad);
+        return Err(KeyDecodeError::Bad);
     };
     reader.advance(1);
     let distance = read_distance(form, reader)?;
@@ -276,7 +279,7 @@ fn number_by_bytes(ptype: PType, reader: &mut Reader<'_>) -> Result<PValue, Faul
 
 /// A number of the kind.
 #[inline(always)]
-pub(super) fn read_number(ptype: PType, reader: &mut Reader<'_>) -> Result<PValue, Fault>
+pub(super) fn read_number(ptype: PType, reader: &mut Reader<'_>) -> Result<PValue, KeyDecodeError>
     ensures { Reads (Unit {0}) (IsPresent (integer_type ptype NonNullable)) number_tree
         result (left reader.old) (left reader.new) }
 {

@@ -1,13 +1,14 @@
 //! Strings from their keys.
 
-ghost use Rattle.std.specs.Prelude.{◌≡◌, ◌+◌, ◌++◌, ◌∷◌, ◌<◌, IfSome, MatchOption, MatchResult, IsAscii, IsUtf8, drop, length};
+ghost use Rattle.std.specs.Prelude.{◌≡◌, ◌+◌, ◌++◌, ◌∷◌, ◌<◌, IfSome, MatchOption, MatchResult, IsAscii, IsUtf8, drop};
+ghost use Rattle.std.specs.Prelude.{length};
 ghost use Rattle.vortex_row.specs.Reading.{BeginsWithOne, IsStuck, left};
 ghost use Rattle.vortex_row.specs.Strings.{AreCharacters, HasString, IsAny, IsEscaped, IsHalfEscaped};
 ghost use Rattle.vortex_row.specs.Words.{escape};
-ghost use Rattle.vortex_row.specs.declared.reader.Fault.TheVariants.{Bad, NoMemory};
+ghost use Rattle.vortex_row.specs.declared.reader.KeyDecodeError.TheVariants.{Bad, NoMemory};
 
 use super::texts::first_bad;
-use crate::reader::{Fault, Reader, bytes_to, inverted_if};
+use crate::reader::{KeyDecodeError, Reader, bytes_to, inverted_if};
 use crate::tags::{END, ESCAPE, PLAIN};
 use memchr::{memchr, memchr2};
 use std::alloc::Global;
@@ -90,29 +91,29 @@ fn plain_text(bytes: &[u8]) -> Option<&str>
 }
 
 /// A buffer of this text.
-fn text_of(alloc: Global, text: &str) -> Result<BufferString, Fault>
+fn text_of(alloc: Global, text: &str) -> Result<BufferString, KeyDecodeError>
     ensures { MatchResult result (λ buffer. buffer ≡ text.now) (λ e. e ≡ NoMemory) }
 {
-    BufferString::from_str(alloc, text).map_err(|_| Fault::NoMemory)
+    BufferString::from_str(alloc, text).map_err(|_| KeyDecodeError::NoMemory)
 }
 
 /// A buffer of these bytes.
-fn buffer_of(alloc: Global, bytes: &[u8]) -> Result<ByteBuffer, Fault>
+fn buffer_of(alloc: Global, bytes: &[u8]) -> Result<ByteBuffer, KeyDecodeError>
     ensures { MatchResult result (λ buffer. buffer ≡ bytes.now) (λ e. e ≡ NoMemory) }
 {
-    ByteBuffer::from_slice(alloc, bytes).map_err(|_| Fault::NoMemory)
+    ByteBuffer::from_slice(alloc, bytes).map_err(|_| KeyDecodeError::NoMemory)
 }
 
 /// A buffer with these bytes.
-fn buffer_with(bytes: Vec<u8>) -> Result<ByteBuffer, Fault>
+fn buffer_with(bytes: Vec<u8>) -> Result<ByteBuffer, KeyDecodeError>
     ensures { MatchResult result (λ buffer. buffer ≡ bytes.items) (λ e. e ≡ NoMemory) }
 {
-    ByteBuffer::from_vec(bytes).map_err(|_| Fault::NoMemory)
+    ByteBuffer::from_vec(bytes).map_err(|_| KeyDecodeError::NoMemory)
 }
 
 /// The second byte of the two that a byte 0 or 1 is written as, after the first of them.
 #[tactic(auto, using(crate::proofs::StringSteps::bytes))]
-fn second_byte(reader: &mut Reader<'_>) -> Result<u8, Fault>
+fn second_byte(reader: &mut Reader<'_>) -> Result<u8, KeyDecodeError>
     ensures { MatchResult result
         (λ byte. 1 ∷ left reader.old ≡ escape byte ++ left reader.new)
         (λ e. IsStuck (Unit {0}) (IsHalfEscaped IsAny) (left reader.old) (left reader.new)) }
@@ -122,13 +123,13 @@ fn second_byte(reader: &mut Reader<'_>) -> Result<u8, Fault>
     } else if reader.takes(ESCAPE + 1) {
         Ok(ESCAPE)
     } else {
-        Err(Fault::Bad)
+        Err(KeyDecodeError::Bad)
     }
 }
 
 /// The next byte of a string. `None` at its end, which is taken.
 #[tactic(auto, using(crate::proofs::StringSteps::bytes))]
-fn next_byte(reader: &mut Reader<'_>) -> Result<Option<u8>, Fault>
+fn next_byte(reader: &mut Reader<'_>) -> Result<Option<u8>, KeyDecodeError>
     ensures { MatchResult result
         (λ next. MatchOption next (left reader.old ≡ 0 ∷ left reader.new)
         (λ byte. left reader.old ≡ escape byte ++ left reader.new))
@@ -150,13 +151,13 @@ fn next_byte(reader: &mut Reader<'_>) -> Result<Option<u8>, Fault>
             reader.advance(1);
             Ok(Some(byte))
         }
-        None => Err(Fault::Bad),
+        None => Err(KeyDecodeError::Bad),
     }
 }
 
 /// The bytes of a string, one by one.
 #[tactic(auto, using(crate::proofs::StringSteps::strings))]
-fn read_by_bytes(alloc: Global, reader: &mut Reader<'_>) -> Result<Vec<u8>, Fault>
+fn read_by_bytes(alloc: Global, reader: &mut Reader<'_>) -> Result<Vec<u8>, KeyDecodeError>
     ensures { MatchResult result
         (λ bytes. HasString IsAny bytes.items (left reader.old) (left reader.new))
         (λ e. e ≡ Bad
@@ -174,7 +175,10 @@ fn read_by_bytes(alloc: Global, reader: &mut Reader<'_>) -> Result<Vec<u8>, Faul
 
 /// A string of bytes.
 #[tactic(auto, using(crate::proofs::StringSteps::strings))]
-pub(super) fn read_bytes(alloc: Global, reader: &mut Reader<'_>) -> Result<ByteBuffer, Fault>
+pub(super) fn read_bytes(
+    alloc: Global,
+    reader: &mut Reader<'_>,
+) -> Result<ByteBuffer, KeyDecodeError>
     ensures { MatchResult result
         (λ buffer. HasString IsAny buffer (left reader.old) (left reader.new))
         (λ e. e ≡ Bad
@@ -192,21 +196,21 @@ pub(super) fn read_bytes(alloc: Global, reader: &mut Reader<'_>) -> Result<ByteB
 
 /// A text. `Bad` exactly says that none is there, and nothing of where.
 #[tactic(auto, using(crate::proofs::StringSteps::strings))]
-fn read_valid(alloc: Global, reader: &mut Reader<'_>) -> Result<BufferString, Fault>
+fn read_valid(alloc: Global, reader: &mut Reader<'_>) -> Result<BufferString, KeyDecodeError>
     ensures { MatchResult result
         (λ text. HasString IsUtf8 text (left reader.old) (left reader.new))
         (λ e. e ≡ Bad → ¬ (BeginsWithOne (IsEscaped IsUtf8) (left reader.old))) }
 {
     match BufferString::try_from(read_bytes(alloc, reader)?) {
         Ok(text) => Ok(text),
-        Err(_) => Err(Fault::Bad),
+        Err(_) => Err(KeyDecodeError::Bad),
     }
 }
 
 /// A text, byte by byte.
 #[tactic(auto, using(crate::proofs::StringSteps::strings))]
 #[inline(never)]
-fn text_by_bytes(alloc: Global, reader: &mut Reader<'_>) -> Result<BufferString, Fault>
+fn text_by_bytes(alloc: Global, reader: &mut Reader<'_>) -> Result<BufferString, KeyDecodeError>
     ensures { MatchResult result
         (λ text. HasString IsUtf8 text (left reader.old) (left reader.new))
         (λ e. e ≡ Bad
@@ -214,10 +218,10 @@ fn text_by_bytes(alloc: Global, reader: &mut Reader<'_>) -> Result<BufferString,
 {
     let start = *reader;
     match read_valid(alloc, reader) {
-        Err(Fault::Bad) => {
+        Err(KeyDecodeError::Bad) => {
             *reader = start;
             reader.advance(first_bad(start.rest, start.invert));
-            Err(Fault::Bad)
+            Err(KeyDecodeError::Bad)
         }
         answer => answer,
     }
@@ -225,7 +229,10 @@ fn text_by_bytes(alloc: Global, reader: &mut Reader<'_>) -> Result<BufferString,
 
 /// A text.
 #[inline(always)]
-pub(super) fn read_text(alloc: Global, reader: &mut Reader<'_>) -> Result<BufferString, Fault>
+pub(super) fn read_text(
+    alloc: Global,
+    reader: &mut Reader<'_>,
+) -> Result<BufferString, KeyDecodeError>
     ensures { MatchResult result
         (λ text. HasString IsUtf8 text (left reader.old) (left reader.new))
         (λ e. e ≡ Bad

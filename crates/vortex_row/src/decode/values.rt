@@ -1,14 +1,19 @@
 //! Values from their keys, down the type. A refusal leaves the reader before the first byte that
 //! cannot be.
 
-ghost use Rattle.std.specs.Prelude.{◌≡◌, ◌≢◌, ◌++◌, ◌∷◌, ◌<◌, [], ℕ, List, MatchOption, MatchResult, Some, false, option_map, true};
-ghost use Rattle.vortex_row.specs.Reading.{AllHaveValues, HasRead, HasValues, IsChild, IsPresent, IsStuck, Puts, Reads, ReadsInto, entry_type, left};
-ghost use Rattle.vortex_row.specs.Words.{IsNullable, NonNullable, Valid, absent, as_type_trees, dtype_trees, fixed_size_list_type, integer_type, list_type, map_of, map_type, raw_of, raw_union, struct_type, type_of, type_with, union_tree, union_type, value_tree, variants_of};
-ghost use Rattle.vortex_row.specs.declared.reader.Fault.TheVariants.{Bad, NoMemory};
+ghost use Rattle.std.specs.Prelude.{◌≡◌, ◌≢◌, ◌++◌, ◌∷◌, ◌<◌, [], ℕ, List, MatchOption, MatchResult, Some, false};
+ghost use Rattle.std.specs.Prelude.{option_map, true};
+ghost use Rattle.vortex_row.specs.Reading.{AllHaveValues, HasRead, HasValues, IsChild, IsPresent, IsStuck, Puts, Reads};
+ghost use Rattle.vortex_row.specs.Reading.{ReadsInto, entry_type, left};
+ghost use Rattle.vortex_row.specs.Words.{IsNullable, NonNullable, Valid, absent, as_type_trees, dtype_trees};
+ghost use Rattle.vortex_row.specs.Words.{fixed_size_list_type, integer_type, list_type, map_of, map_type, raw_of};
+ghost use Rattle.vortex_row.specs.Words.{raw_union, struct_type, type_of, type_with, union_tree, union_type};
+ghost use Rattle.vortex_row.specs.Words.{value_tree, variants_of};
+ghost use Rattle.vortex_row.specs.declared.reader.KeyDecodeError.TheVariants.{Bad, NoMemory};
 
 use super::leaves::{put_number, put_text, read_binary, read_primitive, read_truth, read_utf8};
 use super::numbers::read_number;
-use crate::reader::{Fault, Reader};
+use crate::reader::{KeyDecodeError, Reader};
 use crate::tags::{END, NULL, SEQUENCE, TAGGED};
 use std::alloc::Global;
 use vortex_dtype::{DType, MapDType, PType, UnionVariants};
@@ -27,7 +32,10 @@ fn variant_with(variants: &UnionVariants, id: u8) -> Option<&DType>
 
 /// Puts a part to the others.
 #[inline(always)]
-fn push(part: Option<ScalarValue>, parts: &mut Vec<Option<ScalarValue>>) -> Result<(), Fault>
+fn push(
+    part: Option<ScalarValue>,
+    parts: &mut Vec<Option<ScalarValue>>,
+) -> Result<(), KeyDecodeError>
     ensures { MatchResult result
         (λ _. parts.new.items ≡ parts.old.items ++ part ∷ [])
         (λ e. e ≡ NoMemory) }
@@ -42,21 +50,24 @@ fn push(part: Option<ScalarValue>, parts: &mut Vec<Option<ScalarValue>>) -> Resu
 
 /// Puts a part to the others, in capacity that has to be reserved first.
 #[inline(never)]
-fn push_more(part: Option<ScalarValue>, parts: &mut Vec<Option<ScalarValue>>) -> Result<(), Fault>
+fn push_more(
+    part: Option<ScalarValue>,
+    parts: &mut Vec<Option<ScalarValue>>,
+) -> Result<(), KeyDecodeError>
     ensures { MatchResult result
         (λ _. parts.new.items ≡ parts.old.items ++ part ∷ [])
         (λ e. e ≡ NoMemory) }
 {
-    parts.push(part).map_err(|_| Fault::NoMemory)
+    parts.push(part).map_err(|_| KeyDecodeError::NoMemory)
 }
 
 /// The value of a union with this id and child.
-fn union_of(alloc: Global, id: u8, child: Option<ScalarValue>) -> Result<UnionValue, Fault>
+fn union_of(alloc: Global, id: u8, child: Option<ScalarValue>) -> Result<UnionValue, KeyDecodeError>
     ensures { MatchResult result
         (λ made. union_tree made ≡ raw_union id (raw_of child))
         (λ e. e ≡ NoMemory) }
 {
-    UnionValue::new(alloc, id, child).map_err(|_| Fault::NoMemory)
+    UnionValue::new(alloc, id, child).map_err(|_| KeyDecodeError::NoMemory)
 }
 
 /// Whether a null comes, and the type takes one; it is then taken.
@@ -79,7 +90,7 @@ pub(super) fn read(
     alloc: Global,
     dtype: &DType,
     reader: &mut Reader<'_>,
-) -> Result<Option<ScalarValue>, Fault>
+) -> Result<Option<ScalarValue>, KeyDecodeError>
     ensures { Reads (HasValues (type_of dtype.now)) (Valid (type_of dtype.now)) raw_of
         result (left reader.old) (left reader.new) }
 {
@@ -95,7 +106,7 @@ fn push_number(
     ptype: PType,
     reader: &mut Reader<'_>,
     parts: &mut Vec<Option<ScalarValue>>,
-) -> Result<(), Fault>
+) -> Result<(), KeyDecodeError>
     ensures { Puts (Unit {0}) (IsPresent (integer_type ptype NonNullable)) result
         parts.old.items parts.new.items (left reader.old) (left reader.new) }
 {
@@ -111,7 +122,7 @@ fn push_value(
     dtype: &DType,
     reader: &mut Reader<'_>,
     parts: &mut Vec<Option<ScalarValue>>,
-) -> Result<(), Fault>
+) -> Result<(), KeyDecodeError>
     ensures { Puts (HasValues (type_of dtype.now)) (IsPresent (type_of dtype.now)) result
         parts.old.items parts.new.items (left reader.old) (left reader.new) }
 {
@@ -128,7 +139,7 @@ fn push_next(
     dtype: &DType,
     reader: &mut Reader<'_>,
     parts: &mut Vec<Option<ScalarValue>>,
-) -> Result<(), Fault>
+) -> Result<(), KeyDecodeError>
     ensures { Puts (HasValues (type_of dtype.now)) (Valid (type_of dtype.now)) result
         parts.old.items parts.new.items (left reader.old) (left reader.new) }
 {
@@ -148,7 +159,7 @@ pub(super) fn read_value(
     alloc: Global,
     dtype: &DType,
     reader: &mut Reader<'_>,
-) -> Result<ScalarValue, Fault>
+) -> Result<ScalarValue, KeyDecodeError>
     ensures { Reads (HasValues (type_of dtype.now)) (IsPresent (type_of dtype.now)) value_tree
         result (left reader.old) (left reader.new) }
 {
@@ -163,7 +174,7 @@ pub(super) fn read_value(
         DType::Struct(fields, _) => read_struct(alloc, fields.dtypes(), reader),
         DType::Union(variants, _) => read_union(alloc, variants, reader),
         DType::Extension(extension) => read_value(alloc, extension.storage_dtype(), reader),
-        DType::Null | DType::Variant(_) => Err(Fault::Bad),
+        DType::Null | DType::Variant(_) => Err(KeyDecodeError::Bad),
     }
 }
 
@@ -175,7 +186,7 @@ pub(super) fn read_into(
     dtype: &DType,
     reader: &mut Reader<'_>,
     place: &mut Option<ScalarValue>,
-) -> Result<(), Fault>
+) -> Result<(), KeyDecodeError>
     ensures { ReadsInto (HasValues (type_of dtype.now)) (IsPresent (type_of dtype.now)) result
         (raw_of place.new) (left reader.old) (left reader.new) }
 {
@@ -193,7 +204,7 @@ fn put_value(
     dtype: &DType,
     reader: &mut Reader<'_>,
     place: &mut Option<ScalarValue>,
-) -> Result<(), Fault>
+) -> Result<(), KeyDecodeError>
     ensures { ReadsInto (HasValues (type_of dtype.now)) (IsPresent (type_of dtype.now)) result
         (raw_of place.new) (left reader.old) (left reader.new) }
 {
@@ -204,7 +215,11 @@ fn put_value(
 /// A list of elements of this type.
 #[cycle(read)]
 #[tactic(auto, using(crate::proofs::ValueSteps::shown))]
-fn read_list(alloc: Global, element: &DType, reader: &mut Reader<'_>) -> Result<ScalarValue, Fault>
+fn read_list(
+    alloc: Global,
+    element: &DType,
+    reader: &mut Reader<'_>,
+) -> Result<ScalarValue, KeyDecodeError>
     ensures { Reads (HasValues (type_of element.now))
         (IsPresent (list_type (type_of element.now) NonNullable)) value_tree
         result (left reader.old) (left reader.new) }
@@ -225,7 +240,7 @@ fn read_fixed(
     element: &DType,
     size: u32,
     reader: &mut Reader<'_>,
-) -> Result<ScalarValue, Fault>
+) -> Result<ScalarValue, KeyDecodeError>
     ensures { Reads (HasValues (type_of element.now))
         (IsPresent (fixed_size_list_type (type_of element.now) size NonNullable)) value_tree
         result (left reader.old) (left reader.new) }
@@ -242,7 +257,11 @@ fn read_fixed(
 /// The entries of a map.
 #[cycle(read)]
 #[tactic(auto, using(crate::proofs::ValueSteps::shown))]
-fn read_map(alloc: Global, map: &MapDType, reader: &mut Reader<'_>) -> Result<ScalarValue, Fault>
+fn read_map(
+    alloc: Global,
+    map: &MapDType,
+    reader: &mut Reader<'_>,
+) -> Result<ScalarValue, KeyDecodeError>
     ensures { Reads (HasValues (map_of map.now).key × HasValues (map_of map.now).value)
         (IsPresent (map_type (map_of map.now).key (map_of map.now).value false NonNullable))
         value_tree result (left reader.old) (left reader.new) }
@@ -258,7 +277,11 @@ fn read_map(alloc: Global, map: &MapDType, reader: &mut Reader<'_>) -> Result<Sc
 /// A key and a value of a map.
 #[cycle(read)]
 #[tactic(auto, using(crate::proofs::ValueSteps::shown))]
-fn read_entry(alloc: Global, map: &MapDType, reader: &mut Reader<'_>) -> Result<ScalarValue, Fault>
+fn read_entry(
+    alloc: Global,
+    map: &MapDType,
+    reader: &mut Reader<'_>,
+) -> Result<ScalarValue, KeyDecodeError>
     ensures { Reads (HasValues (map_of map.now).key × HasValues (map_of map.now).value)
         (IsPresent (entry_type (map_of map.now).key (map_of map.now).value)) value_tree
         result (left reader.old) (left reader.new) }
@@ -278,7 +301,7 @@ fn read_struct(
     alloc: Global,
     dtypes: &[DType],
     reader: &mut Reader<'_>,
-) -> Result<ScalarValue, Fault>
+) -> Result<ScalarValue, KeyDecodeError>
     ensures { Reads (AllHaveValues (dtype_trees dtypes.now))
         (IsPresent (struct_type [] (dtype_trees dtypes.now) NonNullable)) value_tree
         result (left reader.old) (left reader.new) }
@@ -299,7 +322,7 @@ fn read_union(
     alloc: Global,
     variants: &UnionVariants,
     reader: &mut Reader<'_>,
-) -> Result<ScalarValue, Fault>
+) -> Result<ScalarValue, KeyDecodeError>
     ensures { Reads (HasValues (union_type []
         (as_type_trees (variants_of variants.now).types)
         (variants_of variants.now).type_ids NonNullable))
@@ -319,7 +342,7 @@ fn read_union(
 fn variant_at<'a>(
     variants: &'a UnionVariants,
     reader: &mut Reader<'_>,
-) -> Result<(u8, &'a DType), Fault>
+) -> Result<(u8, &'a DType), KeyDecodeError>
     ensures { MatchResult result
         (λ p. (left reader.old ≡ p.0 ∷ left reader.new)
         × (type_with p.0 (variants_of variants.now).type_ids
@@ -330,8 +353,8 @@ fn variant_at<'a>(
         (as_type_trees (variants_of variants.now).types))
         (left reader.old) (left reader.new)) }
 {
-    let id = reader.first().ok_or(Fault::Bad)?;
-    let dtype = variant_with(variants, id).ok_or(Fault::Bad)?;
+    let id = reader.first().ok_or(KeyDecodeError::Bad)?;
+    let dtype = variant_with(variants, id).ok_or(KeyDecodeError::Bad)?;
     reader.advance(1);
     Ok((id, dtype))
 }

@@ -1,7 +1,8 @@
 //! Keys of numbers, written into a slice from an offset on.
 
 ghost use Rattle.std.specs.Prelude.{◌≡◌, ◌≤◌, ◌∷◌, drop, pos};
-ghost use Rattle.vortex_row.specs.Words.{HasSlot, IsWhole, Writes, big_endian, inverted, side_byte, side_key, whole_key, whole_of};
+ghost use Rattle.vortex_row.specs.Words.{HasSlot, IsWhole, Writes, big_endian, inverted, side_byte, side_key};
+ghost use Rattle.vortex_row.specs.Words.{whole_key, whole_of};
 
 use super::bytes::{put, put_all};
 use crate::lengths::leading_zero_bytes;

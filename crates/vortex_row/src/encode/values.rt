@@ -1,7 +1,8 @@
 //! Keys of raw values, written into a slice from an offset on.
 
 ghost use Rattle.std.specs.Prelude.{true};
-ghost use Rattle.vortex_row.specs.Words.{AreHeld, HasSlot, IsHeld, Writes, content, contents, inverted, key, key_with, keys, lent_raw, union_tree, value_tree, value_trees};
+ghost use Rattle.vortex_row.specs.Words.{AreHeld, HasSlot, IsHeld, Writes, content, contents, inverted, key, key_with};
+ghost use Rattle.vortex_row.specs.Words.{keys, lent_raw, union_tree, value_tree, value_trees};
 
 use super::bytes::{invert_between, put};
 use super::numbers::put_number;

@@ -1,7 +1,8 @@
 //! Equality, hash and text of views of extensions.
 
 ghost use Rattle.std.specs.Prelude.{Some};
-ghost use Rattle.vortex_views.specs.Words.{partial_equiv_from_equiv, ref_alike, ref_equal, ref_equiv, ref_feed, ref_text};
+ghost use Rattle.vortex_views.specs.Words.{partial_equiv_from_equiv, ref_alike, ref_equal, ref_equiv, ref_feed};
+ghost use Rattle.vortex_views.specs.Words.{ref_text};
 ghost use Rattle.vortex_views.specs.ViewWords.{ext_ref};
 
 use super::ExtScalar;
