@@ -1,5 +1,6 @@
 -- The rows of a column that can be read.
 use Rattle.std.specs.Prelude.{◌≡◌, Some}
+use Rattle.arrow_columns.specs.Columns.{with_start}
 use Rattle.arrow_columns.specs.Errors.{AreTextRows}
 use Rattle.arrow_columns.specs.Kinds.{kind_at}
 use Rattle.arrow_columns.specs.declared.columns.Column.{Column}
@@ -21,8 +22,8 @@ byte_kind Bits64 = LargeBinary
 
 -- the rows are the column's, by its kind
 abbrev pub AreRowsOf : Column → Rows → Type 0
-AreRowsOf column (Integers rows) = (kind_at column.kind ≡ Some (Integer rows.kind)) × (rows.column ≡ column)
-AreRowsOf column (Booleans rows) = (kind_at column.kind ≡ Some Boolean) × (rows.column ≡ column)
-AreRowsOf column (Strings rows) = (kind_at column.kind ≡ Some (string_kind rows.width)) × (rows.column ≡ column) × AreTextRows rows.width column column.length
-AreRowsOf column (Bytes rows) = (kind_at column.kind ≡ Some (byte_kind rows.width)) × (rows.column ≡ column)
+AreRowsOf column (Integers rows) = (kind_at column.kind ≡ Some (Integer rows.kind)) × (rows.column ≡ with_start column)
+AreRowsOf column (Booleans rows) = (kind_at column.kind ≡ Some Boolean) × (rows.column ≡ with_start column)
+AreRowsOf column (Strings rows) = (kind_at column.kind ≡ Some (string_kind rows.width)) × (rows.column ≡ with_start column) × AreTextRows rows.width (with_start column) (with_start column).length
+AreRowsOf column (Bytes rows) = (kind_at column.kind ≡ Some (byte_kind rows.width)) × (rows.column ≡ with_start column)
 AreRowsOf column (Nulls count) = (kind_at column.kind ≡ Some Null) × (count ≡ column.length)

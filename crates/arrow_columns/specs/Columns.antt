@@ -1,5 +1,5 @@
 -- What a column of each kind has, and its cells.
-use Rattle.std.specs.Prelude.{◌≢◌, ℕ, ℤ, ◌+◌, ◌*◌, ◌^◌, ◌<◌, ◌≤◌, Bool, List, [], ◌∷◌, length, Option, None, replicate}
+use Rattle.std.specs.Prelude.{◌≢◌, ℕ, ℤ, ◌+◌, ◌*◌, ◌^◌, ◌==◌, ◌<◌, ◌≤◌, if◌then◌else◌, Bool, List, [], ◌∷◌, length, Option, None, replicate}
 use Rattle.arrow_columns.specs.Bitmaps.{HasBits, bit_of}
 use Rattle.arrow_columns.specs.Cells.{cells_from}
 use Rattle.arrow_columns.specs.Integers.{integer_of, item_at, width_of}
@@ -12,6 +12,10 @@ use Rattle.arrow_columns.specs.declared.offset_width.OffsetWidth.{OffsetWidth}
 abbrev pub rows_in : List Column → ℕ
 rows_in [] = 0
 rows_in (column ∷ columns) = column.length
+
+-- the same rows, which may begin anywhere if there is none: then they begin with the buffers
+abbrev pub with_start : Column → Column
+with_start column = if column.length == 0 then record column { offset = 0 } else column
 
 -- the row after its last one, by its place in the buffers
 abbrev pub end_of : Column → ℕ

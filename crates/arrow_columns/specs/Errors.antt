@@ -1,7 +1,7 @@
 -- Why a column cannot be read.
 use Rattle.std.specs.Prelude.{◌≡◌, ℕ, ◌+◌, ◌^◌, ◌<◌, ◌≤◌, IsUtf8, Option, Some, None, true}
 use Rattle.arrow_columns.specs.Bitmaps.{is_valid, HasBits}
-use Rattle.arrow_columns.specs.Columns.{AreRowsBefore, HasBooleans, HasIntegers, HasOffsets, HasRows, IsByteColumn, end_of, offset_in}
+use Rattle.arrow_columns.specs.Columns.{AreRowsBefore, HasBooleans, HasIntegers, HasOffsets, HasRows, IsByteColumn, end_of, offset_in, with_start}
 use Rattle.arrow_columns.specs.Kinds.{kind_at}
 use Rattle.arrow_columns.specs.Offsets.{IsRow, bytes_between}
 use Rattle.arrow_columns.specs.declared.columns.Column.{Column}
@@ -75,7 +75,7 @@ IsStringError width column (TooShort Offsets) = HasRows column × ¬ (HasOffsets
 IsStringError width column (BadOffsets row) = IsBadRow width column row
 IsStringError width column (NotUtf8 row) = IsByteColumn width column × (row < column.length) × AreTextRows width column row × ¬ (IsTextRow width column row)
 
--- why a column of this kind cannot be read
+-- why a column of this kind, which begins with the buffers if it has no row, cannot be read
 abbrev pub IsErrorAt : Option Kind → Column → ColumnError → Type 0
 IsErrorAt None column fault = fault ≡ UnknownKind
 IsErrorAt (Some (Integer kind)) column fault = IsIntegerError kind column fault
@@ -87,4 +87,4 @@ IsErrorAt (Some LargeBinary) column fault = IsByteError Bits64 column fault
 IsErrorAt (Some Null) column fault = ⊥
 
 abbrev pub IsErrorOf : Column → ColumnError → Type 0
-IsErrorOf column fault = IsErrorAt (kind_at column.kind) column fault
+IsErrorOf column fault = IsErrorAt (kind_at column.kind) (with_start column) fault

@@ -3,7 +3,7 @@ pub use Rattle.arrow_columns.specs.Bitmaps.{HasBits, bit_of, bitmap_length, is_v
 pub use Rattle.arrow_columns.specs.Casts.{AllFit, AreCastItems, AreCastTo, AreWritten, IsFirstUnfit, IsFirstWithout}
 pub use Rattle.arrow_columns.specs.Cells.{cell_at, cells_from}
 pub use Rattle.arrow_columns.specs.Checked.{AreRowsOf}
-pub use Rattle.arrow_columns.specs.Columns.{HasRows, IsByteColumn, boolean_cells, byte_cells, cells_of_width, end_of, integer_cells, offset_in, rows_in}
+pub use Rattle.arrow_columns.specs.Columns.{HasRows, IsByteColumn, boolean_cells, byte_cells, cells_of_width, end_of, integer_cells, offset_in, rows_in, with_start}
 pub use Rattle.arrow_columns.specs.Errors.{AreTextRows, IsBooleanError, IsByteError, IsErrorOf, IsIntegerError, IsRowsError, IsStringError, IsTextRow}
 pub use Rattle.arrow_columns.specs.Integers.{IsOfKind, cell_of_item, integer_of, item_at, width_of}
 pub use Rattle.arrow_columns.specs.Kinds.{integer_kind_at, kind_at}

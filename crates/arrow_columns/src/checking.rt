@@ -3,7 +3,7 @@
 ghost use Rattle.std.specs.Prelude.{◌≡◌, ◌<◌, ◌≤◌, IfErr, IfOk, MatchOption};
 ghost use Rattle.arrow_columns.specs.Words.{AreRowsOf, AreTextRows, HasRows, IsBooleanError, IsByteColumn};
 ghost use Rattle.arrow_columns.specs.Words.{IsByteError, IsErrorOf, IsIntegerError, IsRowsError, IsStringError};
-ghost use Rattle.arrow_columns.specs.Words.{IsTextRow, bytes_of_offset, end_of, width_of};
+ghost use Rattle.arrow_columns.specs.Words.{IsTextRow, bytes_of_offset, end_of, width_of, with_start};
 
 use crate::bitmaps::bitmap_length;
 use crate::byte_items::{first_bad, first_not_utf8};
@@ -147,7 +147,18 @@ fn string_rows(width: OffsetWidth, column: Column) -> Result<ByteRows, ColumnErr
 }
 
 impl<'a> Column<'a> {
-    /// The rows of the column, or why it cannot be read.
+    /// The same rows. A column without any begins with its buffers, whatever it says of itself.
+    fn with_start(self) -> Column<'a>
+        ensures { result ≡ with_start self.entry }
+    {
+        if self.length == 0 {
+            return Column { offset: 0, ..self };
+        }
+        self
+    }
+
+    /// The rows of the column, or why it cannot be read. A column without rows may have any offset,
+    /// and no bytes in its buffers.
     pub fn check(self) -> Result<Rows<'a>, ColumnError>
         ensures rows { IfOk result (λ rows. AreRowsOf self.entry rows) }
         ensures fault { IfErr result (λ fault. IsErrorOf self.entry fault) }
@@ -155,13 +166,14 @@ impl<'a> Column<'a> {
         let Some(kind) = Kind::from_code(self.kind) else {
             return Err(ColumnError::UnknownKind);
         };
+        let column = self.with_start();
         match kind {
-            Kind::Integer(kind) => Ok(Rows::Integers(integer_rows(kind, self)?)),
-            Kind::Boolean => Ok(Rows::Booleans(boolean_rows(self)?)),
-            Kind::Utf8 => Ok(Rows::Strings(string_rows(OffsetWidth::Bits32, self)?)),
-            Kind::LargeUtf8 => Ok(Rows::Strings(string_rows(OffsetWidth::Bits64, self)?)),
-            Kind::Binary => Ok(Rows::Bytes(byte_rows(OffsetWidth::Bits32, self)?)),
-            Kind::LargeBinary => Ok(Rows::Bytes(byte_rows(OffsetWidth::Bits64, self)?)),
+            Kind::Integer(kind) => Ok(Rows::Integers(integer_rows(kind, column)?)),
+            Kind::Boolean => Ok(Rows::Booleans(boolean_rows(column)?)),
+            Kind::Utf8 => Ok(Rows::Strings(string_rows(OffsetWidth::Bits32, column)?)),
+            Kind::LargeUtf8 => Ok(Rows::Strings(string_rows(OffsetWidth::Bits64, column)?)),
+            Kind::Binary => Ok(Rows::Bytes(byte_rows(OffsetWidth::Bits32, column)?)),
+            Kind::LargeBinary => Ok(Rows::Bytes(byte_rows(OffsetWidth::Bits64, column)?)),
             Kind::Null => Ok(Rows::Nulls(self.length)),
         }
     }

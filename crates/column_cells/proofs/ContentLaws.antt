@@ -1,14 +1,15 @@
 -- The contents of columns: of one row, of all, and by the two ways to say of which column.
-use Rattle.std.proofs.Common.{◌≡◌, ◌∙◌, ℕ, ℤ, ◌+◌, ◌<◌, IsUtf8, List, map, length, replicate, arith, ap, refl, subst, sym, Option, Some, None, slice_get, option_map, IsSomeAnd, Result, Ok, Err, IfErr, IfOk}
+use Rattle.std.proofs.Common.{◌≡◌, ◌∙◌, ℕ, ℤ, ◌+◌, ◌<◌, ◌==◌, if◌then◌else◌, Bool, true, false, IsUtf8, List, map, length, replicate, arith, ap, refl, subst, sym, Option, Some, None, slice_get, option_map, IsSomeAnd, Result, Ok, Err, IfErr, IfOk}
+use Rattle.std.proofs.lemmas.Bool.Decides.{nat_tests}
 use Rattle.std.proofs.lemmas.List.{get_or-replicate, length-map, length-replicate}
 use Rattle.std.proofs.lemmas.List.FromFn.{length-map-range_with_len}
 use Rattle.std.proofs.lemmas.Option.{get_or_from_slice_get, slice_get-get_or, slice_get-map, slice_get_within}
 use Rattle.std.specs.List.{All, range_with_len}
 use Rattle.std.specs.Option.{IfSome}
-use Rattle.arrow_columns.specs.Bitmaps.{is_valid}
+use Rattle.arrow_columns.specs.Bitmaps.{bit_of, is_valid}
 use Rattle.arrow_columns.specs.Cells.{cell_at}
 use Rattle.arrow_columns.specs.Checked.{AreRowsOf, byte_kind, string_kind}
-use Rattle.arrow_columns.specs.Columns.{byte_cells, integer_cells, offset_in}
+use Rattle.arrow_columns.specs.Columns.{byte_cells, integer_cells, offset_in, with_start}
 use Rattle.arrow_columns.specs.Errors.{AreTextRows}
 use Rattle.arrow_columns.specs.Integers.{integer_of, item_at, width_of}
 use Rattle.arrow_columns.specs.Offsets.{bytes_between}
@@ -19,7 +20,7 @@ use Rattle.arrow_columns.specs.declared.offset_width.OffsetWidth.TheVariants.{Bi
 use Rattle.arrow_columns.specs.declared.tested_rows.Rows.{Rows}
 use Rattle.arrow_columns.specs.declared.tested_rows.Rows.TheVariants.{Booleans, Bytes, Integers, Nulls, Strings}
 use Rattle.vortex_pvalue.specs.Numbers.{InRange}
-use Rattle.vortex_value.specs.Values.Content.{Content, content, null, string, text}
+use Rattle.vortex_value.specs.Values.Content.{Content, content, null, string, text, truth, whole}
 use Rattle.vortex_value.specs.Values.RawTree.{absent}
 use Rattle.vortex_value.specs.Values.Scalars.{scalar_content, scalar_raw}
 use Rattle.vortex_value.specs.declared.scalars.Scalar.{Scalar}
@@ -122,11 +123,42 @@ bytes_at : (width : OffsetWidth) (column : Column) → contents_at (Some (byte_k
 bytes_at Bits32 column = refl
 bytes_at Bits64 column = refl
 
+-- ---- a column without rows begins with its buffers
+
+pub with_cases : (column : Column) (P : Column → Type 0) → (column.length ≡ 0 → P (record column { offset = 0 })) → P column → P (with_start column)
+with_cases column P none same = by_test (column.length == 0) refl
+  where
+    by_test : (b : Bool) → (column.length == 0) ≡ b → P (if b then record column { offset = 0 } else column)
+    by_test true e = none (grind (arith, nat_tests))
+    by_test false e = same
+
+no_cells : {X : Type 0} (f : Option X → Content) (cell : ℕ → Option X) (from other n : ℕ) → n ≡ 0 → map f (map cell (range_with_len from n)) ≡ map f (map cell (range_with_len other n))
+no_cells f cell from other n e = ap (λ k. map f (map cell (range_with_len from k))) e ∙ sym (ap (λ k. map f (map cell (range_with_len other k))) e)
+
+integers_start : (kind : IntegerKind) (column : Column) → integer_contents kind (with_start column) ≡ integer_contents kind column
+integers_start kind column =
+    with_cases column (λ c. integer_contents kind c ≡ integer_contents kind column)
+    (λ e. no_cells (content_or_null whole) (cell_at column.validity.now (λ i. integer_of kind (item_at (width_of kind) column.values.now i))) 0 column.offset column.length e) refl
+
+booleans_start : (column : Column) → boolean_contents (with_start column) ≡ boolean_contents column
+booleans_start column =
+    with_cases column (λ c. boolean_contents c ≡ boolean_contents column) (λ e. no_cells (content_or_null truth) (cell_at column.validity.now (bit_of column.values.now)) 0 column.offset column.length e) refl
+
+texts_start : (width : OffsetWidth) (column : Column) → text_contents width (with_start column) ≡ text_contents width column
+texts_start width column =
+    with_cases column (λ c. text_contents width c ≡ text_contents width column)
+    (λ e. no_cells (content_or_null text) (cell_at column.validity.now (bytes_between column.values.now (offset_in width column))) 0 column.offset column.length e) refl
+
+bytes_start : (width : OffsetWidth) (column : Column) → byte_contents width (with_start column) ≡ byte_contents width column
+bytes_start width column =
+    with_cases column (λ c. byte_contents width c ≡ byte_contents width column)
+    (λ e. no_cells (content_or_null string) (cell_at column.validity.now (bytes_between column.values.now (offset_in width column))) 0 column.offset column.length e) refl
+
 pub same_contents : (column : Column) (rows : Rows) → AreRowsOf column rows → contents_of_rows rows ≡ contents_of_column column
-same_contents column (Integers rows) h = ap (integer_contents rows.kind) h.1 ∙ ap (λ k. contents_at k column) (sym h.0)
-same_contents column (Booleans rows) h = ap boolean_contents h.1 ∙ ap (λ k. contents_at k column) (sym h.0)
-same_contents column (Strings rows) h = ap (text_contents rows.width) h.1 ∙ sym (text_at rows.width column) ∙ ap (λ k. contents_at k column) (sym h.0)
-same_contents column (Bytes rows) h = ap (byte_contents rows.width) h.1 ∙ sym (bytes_at rows.width column) ∙ ap (λ k. contents_at k column) (sym h.0)
+same_contents column (Integers rows) h = ap (integer_contents rows.kind) h.1 ∙ integers_start rows.kind column ∙ ap (λ k. contents_at k column) (sym h.0)
+same_contents column (Booleans rows) h = ap boolean_contents h.1 ∙ booleans_start column ∙ ap (λ k. contents_at k column) (sym h.0)
+same_contents column (Strings rows) h = ap (text_contents rows.width) h.1 ∙ texts_start rows.width column ∙ sym (text_at rows.width column) ∙ ap (λ k. contents_at k column) (sym h.0)
+same_contents column (Bytes rows) h = ap (byte_contents rows.width) h.1 ∙ bytes_start rows.width column ∙ sym (bytes_at rows.width column) ∙ ap (λ k. contents_at k column) (sym h.0)
 same_contents column (Nulls count) h = ap (λ n. replicate n null) h.1 ∙ ap (λ k. contents_at k column) (sym h.0)
 
 text_type : (width : OffsetWidth) (rows : Rows) → type_at (Some (string_kind width)) ≡ type_at (Some (string_kind Bits32))
@@ -153,6 +185,6 @@ texts_in width column h =
 pub texts_of : (column : Column) (rows : Rows) → AreRowsOf column rows → HasTexts rows
 texts_of column (Integers rows) h = tt
 texts_of column (Booleans rows) h = tt
-texts_of column (Strings rows) h = subst (λ c. All (λ cell. IfSome cell (λ bytes. IsUtf8 bytes)) (byte_cells rows.width c)) (sym h.1) (texts_in rows.width column h.2)
+texts_of column (Strings rows) h = subst (λ c. All (λ cell. IfSome cell (λ bytes. IsUtf8 bytes)) (byte_cells rows.width c)) (sym h.1) (texts_in rows.width (with_start column) h.2)
 texts_of column (Bytes rows) h = tt
 texts_of column (Nulls count) h = tt

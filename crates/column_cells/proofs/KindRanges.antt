@@ -2,6 +2,7 @@
 use Rattle.std.proofs.Common.{ℕ, suc, zero, ◌+◌, ◌-◌, ◌*◌, ◌^◌, ◌<◌, List, [], ◌∷◌, arith, drop, subst, sym, take}
 use Rattle.std.proofs.Math.Facts.{sfits_to_z}
 use Rattle.std.proofs.lemmas.List.{get_or-drop}
+use Rattle.std.specs.Prelude.{slice_range}
 use Rattle.std.specs.Int.{from_le_bytes, w8, w16, w32, w64}
 use Rattle.arrow_columns.specs.Integers.{integer_of, item_at}
 use Rattle.arrow_columns.specs.declared.kinds.IntegerKind.{IntegerKind}
@@ -19,8 +20,12 @@ taken (suc n) (b ∷ bytes) h (suc k) = taken n bytes (λ j. h (suc j)) k
 dropped : (n : ℕ) (bytes : List ℕ) → AreBytes bytes → AreBytes (drop n bytes)
 dropped n bytes h k = subst (λ b. b < 256) (sym (get_or-drop n bytes k 0)) (h (n + k))
 
+-- the bytes of a part
+pub range_bytes : (a b : ℕ) (buffer : List ℕ) → AreBytes buffer → AreBytes (slice_range buffer a b)
+range_bytes a b buffer h = taken (b - a) (drop a buffer) (dropped a buffer h)
+
 pub item_bytes : (n i : ℕ) (buffer : List ℕ) → AreBytes buffer → AreBytes (item_at n buffer i)
-item_bytes n i buffer h = taken (i * n + n - i * n) (drop (i * n) buffer) (dropped (i * n) buffer h)
+item_bytes n i buffer h = range_bytes (i * n) (i * n + n) buffer h
 
 below8 : (bytes : List ℕ) → AreBytes bytes → from_le_bytes w8 bytes < 2 ^ 8
 below8 bytes h = omega (arith, h 0)

@@ -1,3 +1,4 @@
 mod CellLaws
 mod ContentLaws
 mod KindRanges
+mod TypeLaws

@@ -1,4 +1,5 @@
 pub mod Contents
 pub mod Examples
+pub mod Laws
 pub mod Types
 pub mod Words

@@ -10,4 +10,5 @@ pub use Rattle.vortex_pvalue.specs.Numbers.{InRange}
 pub use Rattle.vortex_value.specs.Values.Content.{string, text, truth, whole}
 pub use Rattle.vortex_value.specs.Values.Scalars.{IsValid, scalar_content, scalar_type}
 pub use Rattle.column_cells.specs.Contents.{HasTexts, IsLongContent, content_or_null, contents_of_column, contents_of_rows}
+pub use Rattle.column_cells.specs.Laws.{ContentsAreOfType}
 pub use Rattle.column_cells.specs.Types.{ptype_of_kind, type_of_column, type_of_kind, type_of_rows}

@@ -5,6 +5,7 @@
 
 mod cells;
 mod columns;
+pub mod laws;
 mod scalars;
 mod types;
 

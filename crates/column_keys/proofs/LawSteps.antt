@@ -7,13 +7,25 @@ use Rattle.vortex_dtype.specs.TypeTree.{TypeTree}
 use Rattle.vortex_value.specs.Values.Content.{Content, content, null}
 use Rattle.vortex_value.specs.Values.RawTree.{RawTree}
 use Rattle.vortex_row.specs.Columns.{row_key}
-use Rattle.vortex_row.specs.Decoded.{AreValuesOf, values_key}
+use Rattle.vortex_value.specs.TypesWithin.{HaveNoVariant}
+use Rattle.vortex_row.specs.Decoded.{AreValuesOf, IsValueOf, values_key}
 use Rattle.vortex_row.specs.Laws.{KeysAreApart, ValuesHaveNoTyped}
 use Rattle.vortex_row.specs.declared.options.SortOptions.{SortOptions}
 use Rattle.column_keys.specs.Keys.{AreRowKeys, row_of}
 use Rattle.column_keys.specs.Cells.{AreCellsOf, IsCellAt, key_at, key_count}
-use Rattle.column_keys.specs.Laws.{AreColumnsOf, ColumnsComeBack}
 use Rattle.column_keys.proofs.RowLaws.{content-there, one-content}
+
+-- the content of a value of the type
+pub record IsContentOf (t : TypeTree) (c : Content) : Type 0 where
+  pub value : RawTree
+  pub of_type : IsValueOf t value
+  pub is : content value ≡ c
+
+-- as many columns as types, each of contents of values of its type, and of so many
+abbrev pub AreColumnsOf : List TypeTree → ℕ → List (List Content) → Type 0
+AreColumnsOf [] count [] = Unit {0}
+AreColumnsOf (t ∷ types) count (cells ∷ table) = (length cells ≡ count) × ((row : ℕ) (d : Content) → row < count → IsContentOf t (get_or cells row d)) × AreColumnsOf types count table
+AreColumnsOf _ count _ = ⊥
 
 -- the values of a row
 row-values : (types : List TypeTree) (table : List (List Content)) (count row : ℕ) → AreColumnsOf types count table → row < count → (vs : List RawTree) × AreValuesOf (as_type_trees types) vs × (map content vs ≡ row_of table row)
@@ -64,8 +76,10 @@ cell-of-row types options table count offsets bytes which row columns keys withi
       cell = record { values = values.0; row = record { values = values.1; is = key }; is = sym (content-there values.0 which ∙ ap (λ cs. get_or cs which null) values.2 ∙ there) };
     }
 
-pub columns-come-back : KeysAreApart → ValuesHaveNoTyped → ColumnsComeBack
-columns-come-back apart law types options table count offsets bytes which counts plain columns keys ends within = (are, λ cells other. only cells other)
+pub table-comes-back : KeysAreApart → ValuesHaveNoTyped → (types : List TypeTree) (options : List SortOptions) (table : List (List Content)) (count : ℕ) (offsets bytes : List ℕ) (which : ℕ)
+    → length options ≡ length types → HaveNoVariant (as_type_trees types) → AreColumnsOf types count table → AreRowKeys options table count offsets bytes → length offsets ≡ count + 1 → which < length table
+    → AreCellsOf options (as_type_trees types) which bytes offsets (get_or table which []) × ((cells : List Content) → AreCellsOf options (as_type_trees types) which bytes offsets cells → cells ≡ get_or table which [])
+table-comes-back apart law types options table count offsets bytes which counts plain columns keys ends within = (are, λ cells other. only cells other)
   where
     all : length (get_or table which []) ≡ key_count offsets
     all = let one = column-count types table count which columns within in omega (arith, one, ends)

@@ -8,7 +8,8 @@ use arrow_columns::Rows;
 use vortex_row::plain_key_length;
 
 /// How many bytes the keys of the first cells of a column have together. It is the greatest `usize`
-/// if they have more. The loop is there for each kind of column, and does not ask for the kind.
+/// if they have more. The loop is there for each kind of column, and does not ask for the kind. Nulls,
+/// of which there may be more than memory holds, are not counted one by one: each has one byte.
 pub(crate) fn column_keys_length(rows: &Rows, count: usize) -> usize
     requires rows { count ≤ length (contents_of_rows rows.now) }
     requires texts { HasTexts rows.now }
@@ -19,7 +20,7 @@ pub(crate) fn column_keys_length(rows: &Rows, count: usize) -> usize
         Rows::Booleans(rows) => cells_length(&Rows::Booleans(*rows), count),
         Rows::Strings(rows) => cells_length(&Rows::Strings(*rows), count),
         Rows::Bytes(rows) => cells_length(&Rows::Bytes(*rows), count),
-        Rows::Nulls(length) => cells_length(&Rows::Nulls(*length), count),
+        Rows::Nulls(_) => count,
     }
 }
 
