@@ -105,7 +105,7 @@ static inline uint32_t plain_check(const struct doqallin_column *of, size_t *pla
     unsigned __int128 end = (unsigned __int128)of->offset + of->length;
     *place = 0;
     if (of->kind > DOQALLIN_NULL) return DOQALLIN_UNKNOWN_KIND;
-    if (of->kind == DOQALLIN_NULL) return DOQALLIN_GIVEN;
+    if (of->kind == DOQALLIN_NULL || !of->length) return DOQALLIN_GIVEN;
     if (end >> 64) return DOQALLIN_TOO_MANY_ROWS;
     if (of->validity_length && of->validity_length < (end + 7) / 8) return DOQALLIN_TOO_SHORT;
     *place = 1;
@@ -113,7 +113,7 @@ static inline uint32_t plain_check(const struct doqallin_column *of, size_t *pla
     if (of->kind == DOQALLIN_BOOL && of->values_length < (end + 7) / 8) return DOQALLIN_TOO_SHORT;
     if (of->kind <= DOQALLIN_BOOL) return DOQALLIN_GIVEN;
     *place = 2;
-    if (of->length && of->offsets_length < (end + 1) * (is_small(of->kind) ? 4 : 8)) return DOQALLIN_TOO_SHORT;
+    if (of->offsets_length < (end + 1) * (is_small(of->kind) ? 4 : 8)) return DOQALLIN_TOO_SHORT;
     for (*place = 0; *place < of->length; ++*place)
         if (start_of(of, *place) > start_of(of, *place + 1) || start_of(of, *place + 1) > of->values_length) return DOQALLIN_BAD_OFFSETS;
     for (*place = 0; is_text(of->kind) && *place < of->length; ++*place) {

@@ -30,7 +30,7 @@ use Rattle.column_cells.proofs.KindRanges.{in_kind, item_bytes, range_bytes}
 -- what holds of each cell that is no null makes its content one of the type
 each_of_type : {X : Type 0} (f : X → Content) (t : TypeTree) (P : X → Type 0) (cells : List (Option X)) → IsOfType t null → ((x : X) → P x → IsOfType t (f x)) → All (λ cell. IfSome cell P) cells
     → (row : ℕ) (d : Content) → row < length (map (content_or_null f) cells) → IsOfType t (get_or (map (content_or_null f) cells) row d)
-each_of_type f t P cells none has all row d l =
+each_of_type {X = X} f t P cells none has all row d l =
     let within : row < length cells = omega (arith, l, length-map cells (content_or_null f)) in
     subst (IsOfType t) (sym (get_or-map (content_or_null f) cells row None d within)) (by_cell (get_or cells row None) (all row None within))
   where
@@ -72,18 +72,18 @@ AreRowBytes (Nulls count) = Unit {0}
 
 row_of_type : (rows : Rows) → HasTexts rows → AreRowBytes rows → (row : ℕ) (d : Content) → row < length (contents_of_rows rows) → IsOfType (type_of_rows rows) (get_or (contents_of_rows rows) row d)
 row_of_type (Integers rows) texts bytes row d l =
-    each_of_type whole (integer_type (ptype_of_kind rows.kind) Nullable) (InRange (ptype_of_kind rows.kind)) (integer_cells rows.kind rows.column) (record { value = absent; valid = tt; is = refl; bytes = tt })
+    each_of_type whole (integer_type (ptype_of_kind rows.kind) Nullable) (InRange (ptype_of_kind rows.kind)) (integer_cells rows.kind rows.column) (record { value = absent; valid = refl; is = refl; bytes = tt })
     (λ z h. record { value = raw_integer (ptype_of_kind rows.kind) z; valid = (refl, h); is = refl; bytes = tt }) (integers_in rows.kind rows.column bytes) row d l
 row_of_type (Booleans rows) texts bytes row d l =
-    each_of_type truth (bool_type Nullable) (λ (b : Bool). Unit {0}) (boolean_cells rows.column) (record { value = absent; valid = tt; is = refl; bytes = tt }) (λ b h. record { value = raw_bool b; valid = tt; is = refl; bytes = tt }) (truths_in rows.column) row d l
+    each_of_type truth (bool_type Nullable) (λ (b : Bool). Unit {0}) (boolean_cells rows.column) (record { value = absent; valid = refl; is = refl; bytes = tt }) (λ b h. record { value = raw_bool b; valid = tt; is = refl; bytes = tt }) (truths_in rows.column) row d l
 row_of_type (Strings rows) texts bytes row d l =
-    each_of_type text (utf8_type Nullable) (λ bs. AreBytes bs × IsUtf8 bs) (byte_cells rows.width rows.column) (record { value = absent; valid = tt; is = refl; bytes = tt }) (λ bs h. record { value = raw_text bs; valid = tt; is = refl; bytes = h })
+    each_of_type text (utf8_type Nullable) (λ bs. AreBytes bs × IsUtf8 bs) (byte_cells rows.width rows.column) (record { value = absent; valid = refl; is = refl; bytes = tt }) (λ bs h. record { value = raw_text bs; valid = tt; is = refl; bytes = h })
     (both (byte_cells rows.width rows.column) (bytes_in rows.width rows.column bytes) texts) row d l
 row_of_type (Bytes rows) texts bytes row d l =
-    each_of_type string (binary_type Nullable) AreBytes (byte_cells rows.width rows.column) (record { value = absent; valid = tt; is = refl; bytes = tt }) (λ bs h. record { value = raw_bytes bs; valid = tt; is = refl; bytes = h })
+    each_of_type string (binary_type Nullable) AreBytes (byte_cells rows.width rows.column) (record { value = absent; valid = refl; is = refl; bytes = tt }) (λ bs h. record { value = raw_bytes bs; valid = tt; is = refl; bytes = h })
     (bytes_in rows.width rows.column bytes) row d l
 row_of_type (Nulls count) texts bytes row d l =
-    subst (IsOfType null_type) (sym (get_or-replicate count row null d (omega (arith, l, length-replicate count null)))) (record { value = absent; valid = tt; is = refl; bytes = tt })
+    subst (IsOfType null_type) (sym (get_or-replicate count row null d (omega (arith, l, length-replicate count null)))) (record { value = absent; valid = refl; is = refl; bytes = tt })
 
 bytes_start : (column : Column) → AreBytes column.values.now → AreBytes (with_start column).values.now
 bytes_start column h = with_cases column (λ c. AreBytes c.values.now) (λ e. h) h

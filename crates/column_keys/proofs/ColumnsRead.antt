@@ -15,7 +15,7 @@ use Rattle.vortex_value.specs.Values.Content.{Content, content}
 use Rattle.vortex_value.specs.declared.scalars.Scalar.{Scalar}
 use Rattle.column_keys.specs.Cells.{raws_in}
 use Rattle.column_keys.specs.Layout.{values_length}
-use Rattle.column_keys.specs.Read.{AreCountedIn, AreWrittenIn, HasSpace, HaveCounts, HaveSpace, IsWritten, LackSpace, LacksSpace}
+use Rattle.column_keys.specs.Read.{AreCountedIn, AreWrittenIn, HasSpace, HaveCounts, HaveSpace, IsWritten, LackSpace}
 use Rattle.column_keys.specs.Types.{type_at_code}
 use Rattle.column_keys.specs.declared.buffers.ColumnBuffers.{ColumnBuffers}
 
@@ -88,17 +88,17 @@ lack-kept codes rows n columns now one e lack = record {
   within = omega (arith, lack.within);
   kind = lack.kind;
   is = lack.is;
-  lacks = λ d. subst (LacksSpace lack.kind (length rows)) (sym (kept-before n lack.which columns now one d e lack.within)) (lack.lacks d);
+  lacks = λ d. subst (λ c. ¬ (HasSpace lack.kind (length rows) c)) (sym (kept-before n lack.which columns now one d e lack.within)) (lack.lacks d);
 }
 
-pub lack-next : (codes : List ℕ) (rows : List (Vec Scalar Global)) (n : ℕ) (columns now : List ColumnBuffers) (kind : Kind) (one : ColumnBuffers) → n < length columns → now ≡ set columns n one → kind_at (slice_index codes n) ≡ Some kind → LacksSpace kind (length rows) one
+pub lack-next : (codes : List ℕ) (rows : List (Vec Scalar Global)) (n : ℕ) (columns now : List ColumnBuffers) (kind : Kind) (one : ColumnBuffers) → n < length columns → now ≡ set columns n one → kind_at (slice_index codes n) ≡ Some kind → ¬ (HasSpace kind (length rows) one)
     → LackSpace codes rows (n + 1) now
 lack-next codes rows n columns now kind one l e is lacks = record {
   which = n;
   within = omega arith;
   kind = kind;
   is = is;
-  lacks = λ d. subst (LacksSpace kind (length rows)) (sym (ap (λ xs. get_or xs n d) e ∙ get_or-set_same columns n one d l)) lacks;
+  lacks = λ d. subst (λ c. ¬ (HasSpace kind (length rows) c)) (sym (ap (λ xs. get_or xs n d) e ∙ get_or-set_same columns n one d l)) lacks;
 }
 
 -- once each has room, the counts are the numbers of bytes

@@ -19,7 +19,7 @@ use Rattle.column_keys.specs.Answers.{AreCellsBy, AreColumnsOfKeys, AreCountsOfK
 use Rattle.column_keys.specs.Cells.{AreCellsOf, AreRowsOf, AreTyped, HaveColumn, raws_in, types_in}
 use Rattle.column_keys.specs.Errors.{IsFirstError, Refuses}
 use Rattle.column_keys.specs.Layout.{values_length}
-use Rattle.column_keys.specs.Read.{AreCountedIn, AreWrittenIn, HaveColumns, HaveValues, LackSpace, LacksSpace}
+use Rattle.column_keys.specs.Read.{AreCountedIn, AreWrittenIn, HasSpace, HaveColumns, HaveValues, LackSpace}
 use Rattle.column_keys.specs.Tables.{options_in}
 use Rattle.column_keys.specs.Types.{AreTypesError, HaveTypes, type_at_code, types_of_codes}
 use Rattle.column_keys.specs.declared.buffers.ColumnBuffers.{ColumnBuffers}
@@ -158,8 +158,8 @@ buffer-lacks codes bytes keys rows old new read all n counted lack = (
     lacks = λ d.
         let one = counted.each lack.which d lack.within in
         let same : one.0 ≡ lack.kind = same-kind _ _ _ one.1 lack.is in
-        subst (λ k. LacksSpace lack.kind (length (map content (raws_in rows lack.which))) (record (get_or old lack.which d) { count = capped (values_length k (map content (raws_in rows lack.which))) })) same
-        (subst (LacksSpace lack.kind (length (map content (raws_in rows lack.which)))) one.2 (subst (λ m. LacksSpace lack.kind m (get_or new lack.which d)) (sym (raws-count rows lack.which)) (lack.lacks d)));
+        subst (λ k. ¬ (HasSpace lack.kind (length (map content (raws_in rows lack.which))) (record (get_or old lack.which d) { count = capped (values_length k (map content (raws_in rows lack.which))) }))) same
+        (subst (λ c. ¬ (HasSpace lack.kind (length (map content (raws_in rows lack.which))) c)) one.2 (subst (λ m. ¬ (HasSpace lack.kind m (get_or new lack.which d))) (sym (raws-count rows lack.which)) (lack.lacks d)));
   },
 )
 

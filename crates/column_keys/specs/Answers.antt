@@ -9,7 +9,7 @@ use Rattle.vortex_value.specs.Values.Content.{Content}
 use Rattle.column_keys.specs.Cells.{AreCellsOf}
 use Rattle.column_keys.specs.Errors.{IsFirstError}
 use Rattle.column_keys.specs.Layout.{values_length}
-use Rattle.column_keys.specs.Read.{IsWritten, LacksSpace}
+use Rattle.column_keys.specs.Read.{HasSpace, IsWritten}
 use Rattle.column_keys.specs.Types.{AreTypesError, HaveTypes, types_of_codes}
 use Rattle.column_keys.specs.declared.buffers.ColumnBuffers.{ColumnBuffers}
 use Rattle.column_keys.specs.declared.errors.KeysError.{KeysError}
@@ -54,7 +54,7 @@ pub record LacksBuffer (codes options bytes offsets : List ℕ) (columns : List 
   pub kind : Kind
   pub cells : List Content
   pub has : HasCells codes options which bytes offsets kind cells
-  pub lacks : (d : ColumnBuffers) → LacksSpace kind (length cells) (record (slice_index_or columns which d) { count = capped (values_length kind cells) })
+  pub lacks : (d : ColumnBuffers) → ¬ (HasSpace kind (length cells) (record (slice_index_or columns which d) { count = capped (values_length kind cells) }))
 
 -- there are as many options as kinds, and as many buffers
 abbrev pub HaveLengths : List ℕ → List ℕ → List ColumnBuffers → Type 0

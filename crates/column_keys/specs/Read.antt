@@ -1,7 +1,7 @@
 -- The columns of rows, and the buffers that they are written to.
 use Rattle.std.specs.Global.{Global}
 use Rattle.std.specs.List.{All}
-use Rattle.std.specs.Prelude.{◌≡◌, ℕ, ◌-◌, ◌^◌, ◌<◌, ◌≤◌, ◌⊎◌, List, Some, Vec, drop, length, map, slice_index, slice_index_or, take}
+use Rattle.std.specs.Prelude.{◌≡◌, ℕ, ◌-◌, ◌^◌, ◌<◌, ◌≤◌, List, Some, Vec, drop, length, map, slice_index, slice_index_or, take}
 use Rattle.arrow_columns.specs.Bitmaps.{bitmap_length}
 use Rattle.arrow_columns.specs.Kinds.{kind_at}
 use Rattle.arrow_columns.specs.declared.kinds.Kind.{Kind}
@@ -16,17 +16,12 @@ use Rattle.column_keys.specs.declared.buffers.ColumnBuffers.{ColumnBuffers}
 
 -- ---- what one column takes
 
--- the buffers have room for a column of so many rows, whose values have as many bytes as they say
+-- the buffers have room for a column of so many rows, whose values have as many bytes as they say: fewer than 2 ^ 64 - 1
 pub record HasSpace (kind : Kind) (rows : ℕ) (column : ColumnBuffers) : Type 0 where
   pub bits : bitmap_length rows ≤ length column.validity.now
   pub items : column.count ≤ length column.values.now
   pub counted : column.count < 2 ^ 64 - 1
   pub places : offsets_length kind rows ≤ length column.offsets.now
-
--- one of the buffers has not, or 64 bits hardly count the bytes
-abbrev pub LacksSpace : Kind → ℕ → ColumnBuffers → Type 0
-LacksSpace kind rows column =
-    (length column.validity.now < bitmap_length rows) ⊎ ((length column.values.now < column.count) ⊎ ((column.count ≡ 2 ^ 64 - 1) ⊎ (length column.offsets.now < offsets_length kind rows)))
 
 -- the buffers are where they were
 abbrev pub AreSameBuffers : ColumnBuffers → ColumnBuffers → Type 0
@@ -75,7 +70,7 @@ pub record LackSpace (codes : List ℕ) (rows : List (Vec Scalar Global)) (n : �
   pub within : which < n
   pub kind : Kind
   pub is : kind_at (slice_index codes which) ≡ Some kind
-  pub lacks : (d : ColumnBuffers) → LacksSpace kind (length rows) (slice_index_or columns which d)
+  pub lacks : (d : ColumnBuffers) → ¬ (HasSpace kind (length rows) (slice_index_or columns which d))
 
 -- the first columns are written, and the others are as they were
 pub record AreWrittenIn (codes : List ℕ) (rows : List (Vec Scalar Global)) (n : ℕ) (old new : List ColumnBuffers) : Type 0 where

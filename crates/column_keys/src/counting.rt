@@ -1,7 +1,7 @@
 //! How much room columns of rows take.
 
-ghost use Rattle.std.specs.Prelude.{◌≡◌, ◌<◌, ℕ, IsTrue, MatchBool, false, length, map};
-ghost use Rattle.column_keys.specs.Read.{AreCountedIn, HasSpace, HaveColumns, HaveSpace, LackSpace, LacksSpace};
+ghost use Rattle.std.specs.Prelude.{◌≡◌, ◌<◌, MatchBool, length, map};
+ghost use Rattle.column_keys.specs.Read.{AreCountedIn, HasSpace, HaveColumns, HaveSpace, LackSpace};
 ghost use Rattle.column_keys.specs.Words.{AreKinds, HaveColumn, bytes_length, capped, content, offsets_length};
 ghost use Rattle.column_keys.specs.Words.{raws_in, values_length};
 
@@ -50,15 +50,34 @@ fn values_length(rows: &[Vec<Scalar>], which: usize, kind: Kind) -> usize
     }
 }
 
-/// Whether the buffers have room for a column of so many rows, whose values have so many bytes.
+/// Whether the buffers have room for a column of so many rows, whose values have as many bytes as
+/// they say.
 fn has_space(kind: Kind, rows: usize, column: &ColumnBuffers) -> bool
     requires { rows < usize.MAX }
-    ensures { MatchBool result (HasSpace kind rows column.now) (LacksSpace kind rows column.now) }
+    ensures { MatchBool result (HasSpace kind rows column.now) (¬ (HasSpace kind rows column.now)) }
 {
     column.validity.len() >= bitmap_length(rows)
         && column.values.len() >= column.count
         && column.count < usize::MAX
         && column.offsets.len() >= offsets_length(kind, rows)
+}
+
+/// Says how many bytes the values of a column have. Answers whether its buffers suffice.
+fn count_column(
+    rows: &[Vec<Scalar>],
+    which: usize,
+    kind: Kind,
+    column: &mut ColumnBuffers,
+) -> bool
+    requires few { length rows.now < usize.MAX }
+    requires cells { HaveColumn rows.now which }
+    ensures counted { column.new ≡ record column.old
+        { count = capped (values_length kind (map content (raws_in rows.now which))) } }
+    ensures space { MatchBool result (HasSpace kind (length rows.now) column.new)
+        (¬ (HasSpace kind (length rows.now) column.new)) }
+{
+    column.count = values_length(rows, which, kind);
+    has_space(kind, rows.len(), column)
 }
 
 /// Says of each column how many bytes its values have. Answers whether all buffers suffice.
@@ -78,8 +97,7 @@ pub(crate) fn count_columns(
     let mut suffices = true;
     for which in 0..kinds.len() {
         let kind = known_kind(kinds[which]);
-        columns[which].count = values_length(rows, which, kind);
-        if !has_space(kind, rows.len(), &columns[which]) {
+        if !count_column(rows, which, kind, &mut columns[which]) {
             suffices = false;
         }
     }

@@ -7,5 +7,6 @@ mod KeyBackSteps
 mod KeySteps
 mod PartSteps
 mod SqlSteps
+mod StartSteps
 mod Truncations
 mod ZoneAnswers

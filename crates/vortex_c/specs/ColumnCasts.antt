@@ -1,7 +1,7 @@
 -- What a cast of a column of integers comes to.
 use Rattle.std.specs.Prelude.{◌≡◌, ◌≢◌, ℕ, ◌*◌, ◌<◌, ◌≤◌, List, drop, length, take, Some, None}
 use Rattle.arrow_columns.specs.Casts.{AreCastTo, IsFirstWithout}
-use Rattle.arrow_columns.specs.Columns.{IsIntegerColumn, integer_cells}
+use Rattle.arrow_columns.specs.Columns.{IsIntegerColumn, integer_cells, with_start}
 use Rattle.arrow_columns.specs.Errors.{IsIntegerError}
 use Rattle.arrow_columns.specs.Integers.{width_of}
 use Rattle.arrow_columns.specs.Kinds.{integer_kind_at, kind_at}
@@ -24,7 +24,7 @@ pub record IsColumnCast (column : Column) (to : ℕ) (buffer : List ℕ) : Type 
   pub from : IntegerKind
   pub into : IntegerKind
   pub kinds : AreKinds column to from into
-  pub is_column : IsIntegerColumn from column
+  pub is_column : IsIntegerColumn from (with_start column)
   pub fits : column.length * width_of into ≤ length buffer
   pub cast : AreCastTo into (integer_cells from column) buffer
 
@@ -33,16 +33,16 @@ pub record IsFrontCast (column : Column) (to count : ℕ) (buffer : List ℕ) : 
   pub from : IntegerKind
   pub into : IntegerKind
   pub kinds : AreKinds column to from into
-  pub is_column : IsIntegerColumn from column
+  pub is_column : IsIntegerColumn from (with_start column)
   pub cast : AreCastTo into (take count (integer_cells from column)) buffer
 
 -- why a column is not cast to a buffer of so many bytes: no two reasons hold at once
 abbrev pub IsCastRefusal : Column → ℕ → ℕ → CastRefusal → Type 0
 IsCastRefusal column to size NotAKind = integer_kind_at to ≡ None
 IsCastRefusal column to size NotIntegers = (integer_kind_at to ≢ None) × ((from : IntegerKind) → kind_at column.kind ≢ Some (Integer from))
-IsCastRefusal column to size (Unreadable fault) = (from into : IntegerKind) × AreKinds column to from into × IsIntegerError from column fault
-IsCastRefusal column to size TooSmall = (from into : IntegerKind) × AreKinds column to from into × IsIntegerColumn from column × (size < column.length * width_of into)
-IsCastRefusal column to size (Without row) = (from into : IntegerKind) × AreKinds column to from into × IsIntegerColumn from column
+IsCastRefusal column to size (Unreadable fault) = (from into : IntegerKind) × AreKinds column to from into × IsIntegerError from (with_start column) fault
+IsCastRefusal column to size TooSmall = (from into : IntegerKind) × AreKinds column to from into × IsIntegerColumn from (with_start column) × (size < column.length * width_of into)
+IsCastRefusal column to size (Without row) = (from into : IntegerKind) × AreKinds column to from into × IsIntegerColumn from (with_start column)
     × (column.length * width_of into ≤ size) × IsFirstWithout into (integer_cells from column) row
 
 -- its status

@@ -16,7 +16,7 @@ pub use Rattle.column_cells.specs.Types.{type_of_kind}
 pub use Rattle.statistics_bytes.specs.Encoding.{AreOf, IsBoundOf}
 pub use Rattle.vortex_statistics.specs.Statistics.{known, known_bound}
 pub use Rattle.column_keys.specs.Tables.{AreSoundBefore, IsTableError}
-pub use Rattle.arrow_columns.specs.Columns.{rows_in}
+pub use Rattle.arrow_columns.specs.Columns.{rows_in, with_start}
 pub use Rattle.column_keys.specs.declared.faults.TableError.{TableError}
 pub use Rattle.column_statistics.specs.Encodings.{IsColumnEncoding}
 pub use Rattle.column_statistics.specs.Items.{bytes_of_item}

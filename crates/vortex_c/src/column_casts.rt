@@ -4,7 +4,7 @@ ghost use Rattle.std.specs.Prelude.{◌≡◌, ◌≢◌, ◌*◌, ◌≤◌, If
 ghost use Rattle.arrow_columns.specs.declared.kinds.IntegerKind.{IntegerKind as AnyKind};
 ghost use Rattle.vortex_c.specs.Words.{AreKinds, Integer, IsCastRefusal, IsColumnCast, IsFrontCast};
 ghost use Rattle.vortex_c.specs.Words.{IsIntegerError, IsLeft, SaysWhyNoCast, fault_of_cast, integer_kind_at};
-ghost use Rattle.vortex_c.specs.Words.{kind_at, status_of_cast, width_of};
+ghost use Rattle.vortex_c.specs.Words.{kind_at, status_of_cast, width_of, with_start};
 
 use crate::fault::{Fault, place_in_column, status_of_column};
 use crate::status::{BUFFER_TOO_SMALL, GIVEN, NONE, UNKNOWN_KIND};
@@ -138,7 +138,8 @@ fn cast_front(column: Column, to: u8, buffer: &mut [u8]) -> Result<(), CastRefus
 /// The rows of a column that can be cast to a buffer of so many bytes, and the kind with this code.
 fn prepare(column: Column, to: u8, size: usize) -> Result<Castable, CastRefusal>
     ensures kinds { IfOk result (λ given. AreKinds column.entry to given.rows.kind given.into) }
-    ensures column { IfOk result (λ given. given.rows.column ≡ column.entry) }
+    ensures column { IfOk result (λ given. given.rows.column ≡ with_start column.entry) }
+    ensures length { IfOk result (λ given. given.rows.column.length ≡ column.entry.length) }
     ensures fits { IfOk result (λ given. column.entry.length * width_of given.into ≤ size) }
     ensures refused { IfErr result (λ r. IsCastRefusal column.entry to size r) }
     ensures untried { IfErr result (λ r. status_of_cast r ≢ NONE) }
@@ -162,8 +163,8 @@ fn prepare(column: Column, to: u8, size: usize) -> Result<Castable, CastRefusal>
 /// The rows of a column of integers.
 fn integer_rows(from: IntegerKind, column: Column) -> Result<IntegerRows, ColumnError>
     requires { kind_at column.kind ≡ Some (Integer from) }
-    ensures rows { IfOk result (λ rows. (rows.kind ≡ from) × (rows.column ≡ column.entry)) }
-    ensures fault { IfErr result (λ fault. IsIntegerError from column.entry fault) }
+    ensures rows { IfOk result (λ rows. (rows.kind ≡ from) × (rows.column ≡ with_start column.entry)) }
+    ensures fault { IfErr result (λ fault. IsIntegerError from (with_start column.entry) fault) }
 {
     match column.check() {
         Ok(Rows::Integers(rows)) => Ok(rows),

@@ -1,8 +1,9 @@
-use Rattle.std.proofs.Common.{arith, subst, ◌*◌, ◌≤◌, length}
+use Rattle.std.proofs.Common.{◌∙◌, ap, arith, subst, ◌*◌, ◌≤◌, length}
 use Rattle.arrow_columns.specs.Casts.{AreCastTo, IsFirstWithout}
 use Rattle.arrow_columns.specs.Columns.{IsIntegerColumn, integer_cells}
 use Rattle.arrow_columns.specs.Integers.{width_of}
 use Rattle.arrow_columns.specs.declared.columns.Column.{Column}
+use Rattle.vortex_c.proofs.StartSteps.{start-cells}
 use Rattle.vortex_c.proofs.column_casts.cast.Goals as goal
 
 pub returns-in-Ok-cast-clause-cast : goal.returns-in-Ok-cast-clause-cast
@@ -16,7 +17,7 @@ returns-in-Ok-cast-clause-cast c =
       kinds = c.in-Ok.ensures.kinds;
       is_column = subst (λ (column : Column). IsIntegerColumn rows.kind column) c.in-Ok.ensures.column rows.is_column;
       fits = fits;
-      cast = subst (λ (column : Column). AreCastTo into (integer_cells rows.kind column) c.cast.new.buffer) c.in-Ok.ensures.column c.in-Ok-cast.ensures.cast;
+      cast = subst (λ cells. AreCastTo into cells c.cast.new.buffer) (ap (integer_cells rows.kind) c.in-Ok.ensures.column ∙ start-cells rows.kind c.args.column) c.in-Ok-cast.ensures.cast;
     }
 
 pub returns-in-Err-cast-clause-refused : goal.returns-in-Err-cast-clause-refused
@@ -29,5 +30,5 @@ returns-in-Err-cast-clause-refused c =
       c.in-Ok.ensures.kinds,
       subst (λ (column : Column). IsIntegerColumn rows.kind column) c.in-Ok.ensures.column rows.is_column,
       c.in-Ok.ensures.fits,
-      subst (λ (column : Column). IsFirstWithout into (integer_cells rows.kind column) row) c.in-Ok.ensures.column c.in-Err-cast.ensures.fault,
+      subst (λ cells. IsFirstWithout into cells row) (ap (integer_cells rows.kind) c.in-Ok.ensures.column ∙ start-cells rows.kind c.args.column) c.in-Err-cast.ensures.fault,
     )

@@ -1,8 +1,9 @@
-use Rattle.std.proofs.Common.{arith, rules, subst, take, ◌*◌, ◌≤◌, length}
+use Rattle.std.proofs.Common.{◌∙◌, ap, arith, rules, subst, take, ◌*◌, ◌≤◌, length}
 use Rattle.arrow_columns.specs.Casts.{AreCastTo, IsFirstWithout}
 use Rattle.arrow_columns.specs.Columns.{IsIntegerColumn, integer_cells}
 use Rattle.arrow_columns.specs.Integers.{width_of}
 use Rattle.arrow_columns.specs.declared.columns.Column.{Column}
+use Rattle.vortex_c.proofs.StartSteps.{start-cells}
 use Rattle.vortex_c.proofs.column_casts.cast_front.Goals as goal
 
 pub returns-in-Ok-cast_front-clause-cast : goal.returns-in-Ok-cast_front-clause-cast
@@ -16,7 +17,7 @@ returns-in-Ok-cast_front-clause-cast c =
       kinds = c.in-Ok.ensures.kinds;
       is_column = subst (λ (column : Column). IsIntegerColumn rows.kind column) c.in-Ok.ensures.column rows.is_column;
       fits = fits;
-      cast = subst (λ (column : Column). AreCastTo into (integer_cells rows.kind column) c.cast_front.new.buffer) c.in-Ok.ensures.column c.in-Ok-cast_front.ensures.cast;
+      cast = subst (λ cells. AreCastTo into cells c.cast_front.new.buffer) (ap (integer_cells rows.kind) c.in-Ok.ensures.column ∙ start-cells rows.kind c.args.column) c.in-Ok-cast_front.ensures.cast;
     }
 
 pub returns-in-Err-cast_front-clause-refused : goal.returns-in-Err-cast_front-clause-refused
@@ -29,7 +30,7 @@ returns-in-Err-cast_front-clause-refused c =
       c.in-Ok.ensures.kinds,
       subst (λ (column : Column). IsIntegerColumn rows.kind column) c.in-Ok.ensures.column rows.is_column,
       c.in-Ok.ensures.fits,
-      subst (λ (column : Column). IsFirstWithout into (integer_cells rows.kind column) row) c.in-Ok.ensures.column c.in-Err-cast_front.ensures.fault,
+      subst (λ cells. IsFirstWithout into cells row) (ap (integer_cells rows.kind) c.in-Ok.ensures.column ∙ start-cells rows.kind c.args.column) c.in-Err-cast_front.ensures.fault,
     )
 
 pub returns-in-Err-cast_front-clause-left : goal.returns-in-Err-cast_front-clause-left
@@ -43,7 +44,7 @@ returns-in-Err-cast_front-clause-left c =
         into = into;
         kinds = c.in-Ok.ensures.kinds;
         is_column = subst (λ (column : Column). IsIntegerColumn rows.kind column) c.in-Ok.ensures.column rows.is_column;
-        cast = subst (λ (column : Column). AreCastTo into (take row (integer_cells rows.kind column)) buffer) c.in-Ok.ensures.column c.in-Err-cast_front.ensures.front;
+        cast = subst (λ cells. AreCastTo into (take row cells) buffer) (ap (integer_cells rows.kind) c.in-Ok.ensures.column ∙ start-cells rows.kind c.args.column) c.in-Err-cast_front.ensures.front;
       },
       search rules,
     )
