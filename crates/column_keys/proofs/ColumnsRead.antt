@@ -1,5 +1,5 @@
--- The columns of rows, one by one: how many bytes their values have, whether there is room, and what is written.
-use Rattle.std.proofs.Common.{◌≡◌, ◌≢◌, ◌∙◌, ℕ, ◌+◌, ◌<◌, ◌≤◌, ◌⊎◌, inl, inr, List, length, map, get_or, set, refl, sym, subst, ap, ap₂, arith, Option, Some, Bool, true, false, MatchBool}
+-- The columns of rows, one by one: how many bytes their values have, whether the buffers are long enough, and what is written.
+use Rattle.std.proofs.Common.{◌≡◌, ◌≢◌, ◌&&◌, ◌∙◌, ℕ, ◌+◌, ◌<◌, ◌≤◌, ◌⊎◌, inl, inr, List, length, map, get_or, set, refl, sym, subst, ap, ap₂, arith, Option, Some, Bool, true, false, MatchBool}
 use Rattle.std.specs.Global.{Global}
 use Rattle.std.specs.List.{All}
 use Rattle.std.specs.Prelude.{Vec, slice_index}
@@ -59,7 +59,7 @@ counted-next codes rows n count old columns now kind c all l is counted at e = r
           ap (λ xs. get_or xs n d) e ∙ get_or-set_same columns n (record c { count = count }) d l ∙ ap₂ (λ (x : ColumnBuffers) (m : ℕ). with_count x m) (is_old d) counted,
         )
 
--- there is room for the columns so far, or for one of them there is not
+-- the buffers of the columns so far are long enough, or those of one of them are not
 abbrev pub TellsSpace : Bool → List ℕ → List (Vec Scalar Global) → ℕ → List ColumnBuffers → Type 0
 TellsSpace b codes rows n columns = MatchBool b (HaveSpace codes rows n columns) (LackSpace codes rows n columns)
 
@@ -101,7 +101,15 @@ lack-next codes rows n columns now kind one l e is lacks = record {
   lacks = λ d. subst (λ c. ¬ (HasSpace kind (length rows) c)) (sym (ap (λ xs. get_or xs n d) e ∙ get_or-set_same columns n one d l)) lacks;
 }
 
--- once each has room, the counts are the numbers of bytes
+-- one column more
+pub tells-next : (codes : List ℕ) (rows : List (Vec Scalar Global)) (n : ℕ) (columns now : List ColumnBuffers) (kind : Kind) (one : ColumnBuffers) (fits b : Bool) → n < length columns → now ≡ set columns n one → kind_at (slice_index codes n) ≡ Some kind
+    → MatchBool fits (HasSpace kind (length rows) one) (¬ (HasSpace kind (length rows) one)) → TellsSpace b codes rows n columns → TellsSpace (b && fits) codes rows (n + 1) now
+tells-next codes rows n columns now kind one true true l e is has all = space-next codes rows n columns now kind one l e is has all
+tells-next codes rows n columns now kind one false true l e is lacks all = lack-next codes rows n columns now kind one l e is lacks
+tells-next codes rows n columns now kind one true false l e is has lack = lack-kept codes rows n columns now one e lack
+tells-next codes rows n columns now kind one false false l e is lacks lack = lack-kept codes rows n columns now one e lack
+
+-- once the buffers of each are long enough, the counts are the numbers of bytes
 pub counts-there : (codes : List ℕ) (rows : List (Vec Scalar Global)) (old now : List ColumnBuffers) → AreCountedIn codes rows (length codes) old now → HaveSpace codes rows (length codes) now → HaveCounts codes rows now
 counts-there codes rows old now counted space which d kind l is =
     let one = counted.each which d l in
@@ -133,6 +141,18 @@ written-next codes rows n old columns now kind c one all l is at written e = rec
         let found : get_or now n d ≡ one = ap (λ xs. get_or xs n d) e ∙ get_or-set_same columns n one d l in
         subst (λ w. (k : Kind) × (kind_at (slice_index codes w) ≡ Some k) × IsWritten k (map content (raws_in rows w)) (get_or old w d) (get_or now w d)) here
         (kind, is, subst (IsWritten kind (map content (raws_in rows n)) (get_or old n d)) (sym found) (subst (λ x. IsWritten kind (map content (raws_in rows n)) x one) was written))
+
+-- the next column is as it was: it says its count, and its buffers are long enough
+as-it-was : (codes : List ℕ) (rows : List (Vec Scalar Global)) (n : ℕ) (old columns : List ColumnBuffers) (c : ColumnBuffers) → AreWrittenIn codes rows n old columns → c ≡ get_or columns n c → c ≡ get_or old n c
+as-it-was codes rows n old columns c all at = at ∙ all.others n c (omega arith)
+
+pub count-there : (codes : List ℕ) (rows : List (Vec Scalar Global)) (n : ℕ) (old columns : List ColumnBuffers) (kind : Kind) (c : ColumnBuffers) → HaveCounts codes rows old → AreWrittenIn codes rows n old columns → n < length codes → kind_at (slice_index codes n) ≡ Some kind
+    → c ≡ get_or columns n c → c.count ≡ values_length kind (map content (raws_in rows n))
+count-there codes rows n old columns kind c counts all l is at = ap (λ (x : ColumnBuffers). x.count) (as-it-was codes rows n old columns c all at) ∙ counts n c kind l is
+
+pub space-there : (codes : List ℕ) (rows : List (Vec Scalar Global)) (n : ℕ) (old columns : List ColumnBuffers) (kind : Kind) (c : ColumnBuffers) → HaveSpace codes rows (length codes) old → AreWrittenIn codes rows n old columns → n < length codes
+    → kind_at (slice_index codes n) ≡ Some kind → c ≡ get_or columns n c → HasSpace kind (length rows) c
+space-there codes rows n old columns kind c space all l is at = subst (HasSpace kind (length rows)) (sym (as-it-was codes rows n old columns c all at)) (space n c kind l is)
 
 -- the count that was written between does not matter
 pub written-before : (kind : Kind) (cells : List Content) (count : ℕ) (old between new : ColumnBuffers) → between ≡ record old { count = count } → IsWritten kind cells between new → IsWritten kind cells old new

@@ -55,7 +55,7 @@ length-front [] (suc n) = omega arith
 length-front (c ∷ cells) zero = omega arith
 length-front (c ∷ cells) (suc n) = let less = length-front cells n in omega (arith, less)
 
--- there is room for the bytes of the next cell
+-- the buffer holds the bytes of the next cell
 pub length-fits : (cells : List Content) (row place : ℕ) (d : Content) → row < length cells → get_or cells row null ≡ d → place ≡ bytes_length (take row cells) → place + length (bytes_in d) ≤ bytes_length cells
 length-fits cells row place d within there at = let more = length-more cells row d within there in let less = length-front cells (row + 1) in omega (arith, more, less, at)
 

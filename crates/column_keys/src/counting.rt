@@ -97,9 +97,8 @@ pub(crate) fn count_columns(
     let mut suffices = true;
     for which in 0..kinds.len() {
         let kind = known_kind(kinds[which]);
-        if !count_column(rows, which, kind, &mut columns[which]) {
-            suffices = false;
-        }
+        let column = &mut columns[which];
+        suffices &= count_column(rows, which, kind, column);
     }
     suffices
 }

@@ -30,7 +30,9 @@ pub(crate) fn write_columns(kinds: &[u8], rows: &[Vec<Scalar>], columns: &mut [C
     ensures { AreWrittenIn kinds.now rows.now (length kinds.now) columns.old columns.new }
 {
     for which in 0..kinds.len() {
-        write_column(rows, which, known_kind(kinds[which]), &mut columns[which]);
+        let kind = known_kind(kinds[which]);
+        let column = &mut columns[which];
+        write_column(rows, which, kind, column);
     }
 }
 

@@ -1,4 +1,4 @@
--- The counts so far, and whether there was room.
+-- The counts so far, and whether the buffers were long enough.
 use Rattle.column_keys.specs.Read.{AreCountedIn}
 use Rattle.column_keys.proofs.ColumnsRead.{TellsSpace}
 use Rattle.column_keys.proofs.counting.count_columns.Given as goal
