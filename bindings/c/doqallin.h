@@ -188,7 +188,7 @@ uint32_t doqallin_column_bounds_text(const uint8_t *bytes, size_t bytes_length, 
  * another number of rows than the first.
  * BAD_OPTIONS: the byte of fault->column is above 3.
  * UNKNOWN_KIND, TOO_MANY_ROWS, TOO_SHORT, BAD_OFFSETS, NOT_UTF8: fault->column cannot be read, for what is at fault->place.
- * NO_MEMORY: memory is asked for each column. */
+ * NO_MEMORY: memory is asked for each column, and not before the options are counted. */
 uint32_t doqallin_row_keys(const struct doqallin_column *columns, size_t column_count, const uint8_t *options,
                            size_t options_length, uint64_t *offsets_buffer, size_t offsets_buffer_length, uint8_t *buffer,
                            size_t buffer_length, size_t *count, struct doqallin_fault *fault);

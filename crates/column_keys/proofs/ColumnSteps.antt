@@ -53,7 +53,7 @@ sound-more columns options k d read here all one j other less got = by_place (ca
 
 pub table-fault : (columns : List Column) (options : List ℕ) (k : ℕ) (d : Column) (fault : TableError) → length options ≡ length columns → k < length columns → AreSoundBefore columns options k
     → IsErrorAt k (get_or columns k d) (get_or options k 0) (rows_in columns) fault → IsTableError columns options fault
-table-fault columns options k d OutOfMemory counts here all h = tt
+table-fault columns options k d OutOfMemory counts here all h = absurd h
 table-fault columns options k d WrongCount counts here all h = absurd h
 table-fault columns options k d (Unreadable place fault) counts here all h = (counts, (k, get_or columns k d, slice_get-get_or columns k d here, all, h))
 table-fault columns options k d (BadOptions place) counts here all h = (counts, (k, get_or columns k d, slice_get-get_or columns k d here, all, h))

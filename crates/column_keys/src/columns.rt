@@ -67,7 +67,7 @@ fn key_column<'a>(
 /// `WrongCount` exactly if there are not as many options as columns, before all else. Then the
 /// first column with an error gives it: `Unreadable`, `BadOptions` for a byte above 3, and
 /// `WrongLength` for another number of rows than the first. `OutOfMemory` may come in place of
-/// these.
+/// these, but not of `WrongCount`.
 #[tactic(auto, using(crate::proofs::ColumnSteps::shown))]
 pub fn read_columns<'a>(
     alloc: Global,
