@@ -60,7 +60,7 @@ bytes_fit : (t : TypeTree) (bs : List ℕ) (x : Cell) → bytes_literal t bs ≡
 bytes_fit (binary_type n) bs x e = fits_as (binary_type n) (bytes_cell bs) x e refl
 bytes_fit _ bs x e = absurd cc
 
-literal_fits : (t : TypeTree) (token : TokenTree) (x : Cell) → literal_of t token ≡ Some (exactly x) → IsOfType t x
+pub literal_fits : (t : TypeTree) (token : TokenTree) (x : Cell) → literal_of t token ≡ Some (exactly x) → IsOfType t x
 unfolding literal_of
 literal_fits t (keyword_token k) x e = keyword_fits t k x e
 literal_fits t (integer_token negative m) x e = integer_fits t negative m x e

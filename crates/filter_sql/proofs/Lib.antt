@@ -5,6 +5,7 @@ pub mod ColumnSteps
 pub mod Cuts
 pub mod FitLaws
 pub mod Lexed
+pub mod NestLaws
 pub mod ParseSteps
 pub mod Phrases
 pub mod PredicateFronts

@@ -1,5 +1,5 @@
 -- How deep the encoding of a filter nests: a filter that words are has one, at the depth that goes with theirs.
-use Rattle.std.proofs.Common.{◌≡◌, ◌∙◌, ℕ, zero, suc, ◌+◌, ◌*◌, ◌^◌, ◌<◌, ◌≤◌, max, Bool, true, false, cond, List, [], ◌∷◌, ◌++◌, length, map, Option, Some, None, arith, ap, refl, subst, sym, length-append, length-drop}
+use Rattle.std.proofs.Common.{◌≡◌, ◌∙◌, ℕ, zero, suc, ◌+◌, ◌^◌, ◌<◌, ◌≤◌, Bool, true, false, cond, List, [], ◌∷◌, ◌++◌, length, Option, Some, None, arith, ap, refl, subst, sym, length-append, length-drop}
 use Rattle.std.specs.Char.{is_ascii_whitespace}
 use Rattle.std.specs.List.{AllByRecursion, prefix_len}
 use Rattle.std.specs.Option.{option_map}
@@ -10,39 +10,28 @@ use Rattle.arrow_columns.specs.Kinds.{kind_at}
 use Rattle.arrow_columns.specs.declared.kinds.Kind.{Kind}
 use Rattle.arrow_columns.specs.declared.kinds.Kind.TheVariants.{Binary, Boolean, Integer, LargeBinary, LargeUtf8, Null, Utf8}
 use Rattle.column_cells.specs.Types.{type_at}
-use Rattle.vortex_dtype.specs.TypeTree.{TypeTree, as_nullable, binary_type, bool_type, integer_type, null_type, utf8_type}
-use Rattle.vortex_dtype.specs.declared.ptype.PType.{PType}
-use Rattle.vortex_pvalue.specs.Numbers.{in_range}
+use Rattle.vortex_dtype.specs.TypeTree.{binary_type, bool_type, erase, integer_type, null_type, TypeTree, utf8_type}
 use Rattle.vortex_cells.specs.Cells.{Cell}
 use Rattle.vortex_filter.specs.declared.operator.CompareOperator.{CompareOperator}
 use Rattle.vortex_filter.specs.declared.operator.CompareOperator.TheVariants.{Gte, Lte}
-use Rattle.vortex_filter.specs.Formula.{Formula, both, comparison, constant, either, membership, negation, null_test, prefix_test, range}
+use Rattle.vortex_filter.specs.Formula.{both, comparison, constant, either, Formula, membership, negation, null_test, prefix_test, range}
 use Rattle.vortex_filter.specs.Operators.{holds}
 use Rattle.filter_encoding.specs.Encoding.{CanBeWritten, IsPlain, IsPlainCell, Nests}
 use Rattle.filter_encoding.specs.Lists.{AreListed, Fits}
-use Rattle.filter_sql.specs.declared.print.Level.{Level}
-use Rattle.filter_sql.specs.declared.print.Level.TheVariants as levels
-use Rattle.filter_sql.specs.declared.token.Keyword.{Keyword}
-use Rattle.filter_sql.specs.declared.token.Keyword.TheVariants as keywords
-use Rattle.filter_sql.specs.Columns.{ColumnTree, column_named, column_there, named_place, or_numbered, typed_place}
-use Rattle.filter_sql.specs.Grammar.{AreLiterals, IsCondition, IsFilter, IsPredicate, IsTest, and_filter, bare_test, between_literals, compares, group, in_literals, in_nothing, is_not_null, is_null, like_escaped, like_pattern, more_literals, not_filter, not_test, on_column, one_conjunction, one_literal, one_operand, or_filter, predicate, prefix_call, says_false, says_null, says_true}
-use Rattle.filter_sql.specs.Literals.{LiteralTree, always, bytes_cell, bytes_literal, cells_of, comparison_of, exactly, integer_literal, keyword_literal, lacking, literal_of, member_of, never, null_cell, number_cell, order_to_lacking, range_of, signed, string_literal, text_cell, truth_cell, truth_literal}
+use Rattle.filter_sql.specs.Columns.{column_named, column_there, ColumnTree, named_place, or_numbered, typed_place}
+use Rattle.filter_sql.specs.Grammar.{and_filter, AreLiterals, bare_test, between_literals, compares, group, in_literals, in_nothing, is_not_null, is_null, IsCondition, IsFilter, IsPredicate, IsTest, like_escaped, like_pattern, more_literals, not_filter, not_test, on_column, one_conjunction, one_literal, one_operand, or_filter, predicate, prefix_call, says_false, says_null, says_true}
+use Rattle.filter_sql.specs.Literals.{always, cells_of, comparison_of, exactly, lacking, literal_of, LiteralTree, member_of, never, order_to_lacking, range_of}
 use Rattle.filter_sql.specs.Parsing.{IsSqlWithin, tokens_in, types_of}
 use Rattle.filter_sql.specs.Texts.{AreItemsOf, Item, Leads, trimmed}
-use Rattle.filter_sql.specs.Tokens.{TokenTree, bytes_token, closing, comma, integer_token, keyword_token, name_token, opening, string_token}
+use Rattle.filter_sql.specs.Tokens.{closing, comma, string_token, TokenTree}
+use Rattle.filter_sql.proofs.FitLaws.{literal_fits}
+use Rattle.filter_sql.proofs.NestLaws.{height, whole-low}
 use Rattle.filter_sql.proofs.Runs.{front_again}
 use Rattle.filter_sql.proofs.Taken.{token_shorter}
 use Rattle.vortex_c.specs.FilterSql.{encoding_depth, prepared_of, tree_of_kind, trees_of_kinds, types_of_kinds}
 use Rattle.vortex_c.specs.declared.sql.NamedKind.{NamedKind}
 
--- ---- how deep a formula nests
-
--- how many connectives nest in a formula
-abbrev height : Formula → ℕ
-height (both f g) = suc (max (height f) (height g))
-height (either f g) = suc (max (height f) (height g))
-height (negation f) = suc (height f)
-height _ = 0
+-- ---- a formula that has bytes
 
 -- 8 bytes can hold each place and each number of literals, and these are of types that have bytes
 abbrev HasForm : Formula → Type 0
@@ -70,150 +59,27 @@ nests (either f g) (suc n) h l = (nests f n h.0 (omega (arith, l)), nests g n h.
 nests (negation f) zero h l = absurd (omega (arith, l))
 nests (negation f) (suc n) h l = nests f n h (omega (arith, l))
 
--- ---- the height of a filter of the grammar
-
--- at most so much, and no more than there are tokens
-record IsLow (most : ℕ) (ts : List TokenTree) (f : Formula) : Type 0 where
-  high : height f ≤ most
-  tokens : height f ≤ length ts
-
-lacking-height : (k : ℕ) (b : Bool) → height (cond b (always k) (never k)) ≤ 2
-lacking-height k true = omega arith
-lacking-height k false = omega arith
-
-comparison-height : (k : ℕ) (op : CompareOperator) (l : LiteralTree) → height (comparison_of k op l) ≤ 2
-comparison-height k op (exactly x) = omega arith
-comparison-height k op (lacking b) = lacking-height k (holds op (order_to_lacking b))
-
-halves-height : (k : ℕ) (lower upper : LiteralTree) → height (both (comparison_of k Gte lower) (comparison_of k Lte upper)) ≤ 3
-halves-height k lower upper =
-    let low = comparison-height k Gte lower in
-    let high = comparison-height k Lte upper in
-    omega (arith, low, high)
-
-range-height : (k : ℕ) (lower upper : LiteralTree) → height (range_of k lower upper) ≤ 3
-range-height k (exactly x) (exactly y) = omega arith
-range-height k (exactly x) (lacking b) = halves-height k (exactly x) (lacking b)
-range-height k (lacking b) (exactly y) = halves-height k (lacking b) (exactly y)
-range-height k (lacking b) (lacking c) = halves-height k (lacking b) (lacking c)
-
-member-height : (k : ℕ) (xs : List Cell) → height (member_of k xs) ≤ 1
-member-height k [] = omega arith
-member-height k (x ∷ xs) = omega arith
-
-test-low : {k : ℕ} {t : TypeTree} {ts : List TokenTree} {f : Formula} → IsTest k t ts f → IsLow 3 ts f
-test-low in_nothing = record { high = omega arith; tokens = omega arith }
-test-low {k = k} (in_literals {ts} {ls} l) =
-    let low = member-height k (cells_of ls) in
-    record { high = omega (arith, low); tokens = omega (arith, low) }
-test-low {k = k} (between_literals {x} {y} {lower} {upper} p q) =
-    let low = range-height k lower upper in
-    record { high = low; tokens = omega (arith, low) }
-test-low (like_pattern p u l) = record { high = omega arith; tokens = omega arith }
-test-low (like_escaped p u l) = record { high = omega arith; tokens = omega arith }
-
-condition-low : {k : ℕ} {t : TypeTree} {ts : List TokenTree} {f : Formula} → IsCondition k t ts f → IsLow 4 ts f
-condition-low {k = k} (compares {op} {x} {l} said) =
-    let low = comparison-height k op l in
-    record { high = omega (arith, low); tokens = omega (arith, low) }
-condition-low is_null = record { high = omega arith; tokens = omega arith }
-condition-low is_not_null = record { high = omega arith; tokens = omega arith }
-condition-low (bare_test d) =
-    let low = test-low d in
-    record { high = omega (arith, low.high); tokens = low.tokens }
-condition-low (not_test d) =
-    let low = test-low d in
-    record { high = omega (arith, low.high); tokens = omega (arith, low.tokens) }
-
-predicate-low : {columns : List ColumnTree} {ts : List TokenTree} {f : Formula} → IsPredicate columns ts f → IsLow 4 ts f
-predicate-low says_true = record { high = omega arith; tokens = omega arith }
-predicate-low says_false = record { high = omega arith; tokens = omega arith }
-predicate-low says_null = record { high = omega arith; tokens = omega arith }
-predicate-low (on_column named d) =
-    let low = condition-low d in
-    record { high = low.high; tokens = omega (arith, low.tokens) }
-predicate-low (prefix_call named strings said) = record { high = omega arith; tokens = omega arith }
-
--- the most that a filter of a level can be, if so many connectives and parentheses nest in its tokens: of a left operand more may nest
-abbrev most : Level → ℕ → ℕ
-most levels.Not n = max 4 (2 * n + 3)
-most levels.And n = 2 * n + 4
-most levels.Or n = 2 * n + 5
-
-filter-low : {columns : List ColumnTree} {l : Level} {n : ℕ} {ts : List TokenTree} {f : Formula} → IsFilter columns l n ts f → IsLow (most l n) ts f
-filter-low (predicate {n} d) =
-    let low = predicate-low d in
-    record { high = omega (arith, low.high); tokens = low.tokens }
-filter-low (group {n} {ts} d) =
-    let low = filter-low d in
-    record { high = omega (arith, low.high); tokens = omega (arith, low.tokens, length-append ts (closing ∷ [])) }
-filter-low (not_filter {n} d) =
-    let low = filter-low d in
-    record { high = omega (arith, low.high); tokens = omega (arith, low.tokens) }
-filter-low (one_operand {n} d) =
-    let low = filter-low d in
-    record { high = omega (arith, low.high); tokens = low.tokens }
-filter-low (and_filter {n} {ts} {us} d e) =
-    let left = filter-low d in
-    let right = filter-low e in
-    record { high = omega (arith, left.high, right.high); tokens = omega (arith, left.tokens, right.tokens, length-append ts (keyword_token keywords.And ∷ us)) }
-filter-low (one_conjunction {n} d) =
-    let low = filter-low d in
-    record { high = omega (arith, low.high); tokens = low.tokens }
-filter-low (or_filter {n} {ts} {us} d e) =
-    let left = filter-low d in
-    let right = filter-low e in
-    record { high = omega (arith, left.high, right.high); tokens = omega (arith, left.tokens, right.tokens, length-append ts (keyword_token keywords.Or ∷ us)) }
-
 -- ---- its literals
 
-exactly-is : (x y : Cell) → Some (exactly x) ≡ Some (exactly y) → x ≡ y
-exactly-is x y e = cc
+-- a type is as plain as what it is without nullability
+plain-erased : (t : TypeTree) → IsPlain t → IsPlain (erase t)
+plain-erased null_type h = tt
+plain-erased (bool_type n) h = tt
+plain-erased (integer_type k n) h = tt
+plain-erased (utf8_type n) h = tt
+plain-erased (binary_type n) h = tt
+plain-erased _ h = absurd h
 
-same-plain : (x y : Cell) → Some (exactly x) ≡ Some (exactly y) → IsPlainCell x → IsPlainCell y
-same-plain x y e h = subst IsPlainCell (exactly-is x y e) h
-
-plain-null : (t : TypeTree) → IsPlain t → IsPlain (as_nullable t)
-plain-null null_type h = tt
-plain-null (bool_type n) h = tt
-plain-null (integer_type k n) h = tt
-plain-null (utf8_type n) h = tt
-plain-null (binary_type n) h = tt
-plain-null _ h = absurd h
-
-truth-plain : (t : TypeTree) (b : Bool) (x : Cell) → truth_literal t b ≡ Some (exactly x) → IsPlainCell x
-truth-plain (bool_type n) b x e = same-plain (truth_cell b) x e tt
-truth-plain _ b x e = absurd cc
-
-keyword-plain : (t : TypeTree) (k : Keyword) (x : Cell) → IsPlain t → keyword_literal t k ≡ Some (exactly x) → IsPlainCell x
-keyword-plain t keywords.Null x h e = same-plain (null_cell t) x e (plain-null t h)
-keyword-plain t keywords.True x h e = truth-plain t true x e
-keyword-plain t keywords.False x h e = truth-plain t false x e
-keyword-plain t _ x h e = absurd cc
-
-number-plain : (k : PType) (negative : Bool) (z : _) (inside : Bool) (x : Cell) → Some (cond inside (exactly (number_cell k z)) (lacking negative)) ≡ Some (exactly x) → IsPlainCell x
-number-plain k negative z true x e = same-plain (number_cell k z) x e tt
-number-plain k negative z false x e = absurd cc
-
-integer-plain : (t : TypeTree) (negative : Bool) (m : ℕ) (x : Cell) → integer_literal t negative m ≡ Some (exactly x) → IsPlainCell x
-integer-plain (integer_type k n) negative m x e = number-plain k negative (signed negative m) (in_range k (signed negative m)) x e
-integer-plain _ negative m x e = absurd cc
-
-string-plain : (t : TypeTree) (bs : List ℕ) (x : Cell) → string_literal t bs ≡ Some (exactly x) → IsPlainCell x
-string-plain (utf8_type n) bs x e = same-plain (text_cell bs) x e tt
-string-plain _ bs x e = absurd cc
-
-bytes-plain : (t : TypeTree) (bs : List ℕ) (x : Cell) → bytes_literal t bs ≡ Some (exactly x) → IsPlainCell x
-bytes-plain (binary_type n) bs x e = same-plain (bytes_cell bs) x e tt
-bytes-plain _ bs x e = absurd cc
+plain-back : (t : TypeTree) → IsPlain (erase t) → IsPlain t
+plain-back null_type h = tt
+plain-back (bool_type n) h = tt
+plain-back (integer_type k n) h = tt
+plain-back (utf8_type n) h = tt
+plain-back (binary_type n) h = tt
+plain-back _ h = absurd h
 
 literal-plain : (t : TypeTree) (token : TokenTree) (x : Cell) → IsPlain t → literal_of t token ≡ Some (exactly x) → IsPlainCell x
-unfolding literal_of
-literal-plain t (keyword_token k) x h e = keyword-plain t k x h e
-literal-plain t (integer_token negative m) x h e = integer-plain t negative m x e
-literal-plain t (string_token bs) x h e = string-plain t bs x e
-literal-plain t (bytes_token bs) x h e = bytes-plain t bs x e
-literal-plain t _ x h e = absurd cc
+literal-plain t token x h e = plain-back x.typed (subst IsPlain (literal_fits t token x e) (plain-erased t h))
 
 -- what a literal says is of a type that has a byte, if it is a cell
 abbrev IsPlainSaid : LiteralTree → Type 0
@@ -294,6 +160,13 @@ column-is-there : (columns : List ColumnTree) (name : List ℕ) (k : ℕ) (t : T
 unfolding column_named
 column-is-there columns name k t e = there-by columns k t (or_numbered name (named_place columns name)) e
 
+-- the tokens on either side of one are no more than all
+left-short : (ts us : List TokenTree) → length (ts ++ us) < 2 ^ 64 → length ts < 2 ^ 64
+left-short ts us short = omega (arith, short, length-append ts us)
+
+right-short : (ts : List TokenTree) (x : TokenTree) (us : List TokenTree) → length (ts ++ x ∷ us) < 2 ^ 64 → length us < 2 ^ 64
+right-short ts x us short = omega (arith, short, length-append ts (x ∷ us))
+
 -- each column is of a type that has a byte
 abbrev ArePlain : List ColumnTree → Type 0
 ArePlain columns = (k : ℕ) (t : TypeTree) → slice_get (types_of columns) k ≡ Some t → IsPlain t
@@ -315,18 +188,14 @@ module _ (columns : List ColumnTree) (plain : ArePlain columns) (few : length co
       let there = column-is-there columns name k t named in
       (place-fits k t there, literal-plain t x prefix (plain k t there) said)
 
-  filter-form : {l : Level} {n : ℕ} {ts : List TokenTree} {f : Formula} → length ts < 2 ^ 64 → IsFilter columns l n ts f → HasForm f
+  filter-form : {l : _} {n : ℕ} {ts : List TokenTree} {f : Formula} → length ts < 2 ^ 64 → IsFilter columns l n ts f → HasForm f
   filter-form short (predicate d) = predicate-form short d
   filter-form short (group {n} {ts} d) = filter-form (omega (arith, short, length-append ts (closing ∷ []))) d
   filter-form short (not_filter d) = filter-form (omega (arith, short)) d
   filter-form short (one_operand d) = filter-form short d
-  filter-form short (and_filter {n} {ts} {us} d e) =
-      let all = length-append ts (keyword_token keywords.And ∷ us) in
-      (filter-form (omega (arith, short, all)) d, filter-form (omega (arith, short, all)) e)
+  filter-form short (and_filter {n} {ts} {us} d e) = (filter-form (left-short ts _ short) d, filter-form (right-short ts _ us short) e)
   filter-form short (one_conjunction d) = filter-form short d
-  filter-form short (or_filter {n} {ts} {us} d e) =
-      let all = length-append ts (keyword_token keywords.Or ∷ us) in
-      (filter-form (omega (arith, short, all)) d, filter-form (omega (arith, short, all)) e)
+  filter-form short (or_filter {n} {ts} {us} d e) = (filter-form (left-short ts _ short) d, filter-form (right-short ts _ us short) e)
 
 -- ---- its tokens
 
@@ -372,7 +241,7 @@ plain-columns named k t e =
 pub words-nest : (n : ℕ) (words : List ℕ) (named : List NamedKind) (f : Formula) → length words < 2 ^ 64 → length named < 2 ^ 64 → IsSqlWithin n (trees_of_kinds named) words f → CanBeWritten (encoding_depth n) (prepared_of named f)
 words-nest n words named f short few h =
     let tokens = tokens-few words h.items h.are in
-    let low = filter-low h.means in
+    let low = whole-low h.means in
     record {
       types = record { fit = omega (arith, few, length-map named (λ (column : NamedKind). type_at (kind_at column.kind))); each = plain-kinds named };
       filter = nests f (encoding_depth n)

@@ -1,6 +1,6 @@
 //! Filters from SQL's words, prepared to bytes.
 
-ghost use Rattle.std.specs.Prelude.{◌≡◌, ◌⊎◌, IfErr, IfOk, IsUtf8, OnOk, Some, map};
+ghost use Rattle.std.specs.Prelude.{◌≡◌, ◌⊎◌, IfErr, IfOk, IsUtf8, OnOk, Some, length, map};
 ghost use Rattle.vortex_c.specs.FilterWords.{AnswersEncoding, AreNamed, AreValid, HasAnswer, IsColumnError};
 ghost use Rattle.vortex_c.specs.FilterWords.{IsColumnsError, IsNamed, IsPreparedFrom, IsSqlError, IsSqlWithin};
 ghost use Rattle.vortex_c.specs.FilterWords.{IsTextError, IsUnfit, encoding_depth, literals_of};
@@ -126,12 +126,26 @@ fn prepare(
     ensures prepared { IfOk result (λ bytes. IsPreparedFrom depth words.now columns.now bytes.items) }
     ensures refused { IfErr result (IsSqlError depth words.now columns.now) }
 {
-    // What the proof has of lengths is that 64 bits count them.
-    let _length = words.len();
-    let _count = columns.len();
+    // That 64 bits count both is all that the proof takes of them.
+    let _ = byte_count(words);
+    let _ = column_count(columns);
     let text = text_of(words, columns)?;
     let filter = filter_of(alloc, text, columns, depth)?;
     encoding_of(alloc, &filter, columns, encoding_depth(depth))
+}
+
+/// How many bytes the words have.
+fn byte_count(words: &[u8]) -> usize
+    ensures { result ≡ length words.now }
+{
+    words.len()
+}
+
+/// How many columns there are.
+fn column_count(columns: &[NamedKind]) -> usize
+    ensures { result ≡ length columns.now }
+{
+    columns.len()
 }
 
 /// The words as text, if they are UTF-8 and each column has a kind and a name. Takes no memory.
@@ -238,7 +252,7 @@ fn named_columns(alloc: Global, columns: &[NamedKind]) -> Result<Vec<FilterColum
 
 /// The column at a place, by name and type.
 fn named_column(alloc: Global, place: usize, column: NamedKind) -> Result<FilterColumn, SqlError>
-    requires { IsNamed column.entry }
+    requires { IsNamed column }
     ensures named { IfOk result (λ named. column_tree named ≡ tree_of_kind column.entry) }
     ensures refused { IfErr result (λ refusal. refusal ≡ OutOfMemory) }
 {
