@@ -4,7 +4,7 @@ use Rattle.std.specs.Global.{Global}
 use Rattle.std.specs.List.{All}
 use Rattle.std.specs.Prelude.{Vec, slice_index}
 use Rattle.std.proofs.lemmas.Bool.{cases_lt}
-use Rattle.std.proofs.lemmas.List.{get_or-set_other, get_or-set_same, get_or_read}
+use Rattle.std.proofs.lemmas.List.{get_or_default, get_or-set_other, get_or-set_same, get_or_read}
 use Rattle.std.proofs.lemmas.Option.{same_Some}
 use Rattle.arrow_columns.specs.Kinds.{kind_at}
 use Rattle.arrow_columns.specs.declared.kinds.Kind.{Kind}
@@ -58,6 +58,12 @@ counted-next codes rows n count old columns now kind c all l is counted at e = r
           is,
           ap (λ xs. get_or xs n d) e ∙ get_or-set_same columns n (record c { count = count }) d l ∙ ap₂ (λ (x : ColumnBuffers) (m : ℕ). with_count x m) (is_old d) counted,
         )
+
+-- one column more, as it is read out of the slice
+pub counted-after : (codes : List ℕ) (rows : List (Vec Scalar Global)) (n : ℕ) (old columns : List ColumnBuffers) (kind : Kind) (d one : ColumnBuffers) → AreCountedIn codes rows n old columns → n < length columns → kind_at (slice_index codes n) ≡ Some kind
+    → one ≡ record (get_or columns n d) { count = capped (values_length kind (map content (raws_in rows n))) } → AreCountedIn codes rows (n + 1) old (set columns n one)
+counted-after codes rows n old columns kind d one all l is e =
+    counted-next codes rows n (capped (values_length kind (map content (raws_in rows n)))) old columns (set columns n one) kind (get_or columns n d) all l is refl (get_or_default columns n d (get_or columns n d) l) (ap (set columns n) e)
 
 -- the buffers of the columns so far are long enough, or those of one of them are not
 abbrev pub TellsSpace : Bool → List ℕ → List (Vec Scalar Global) → ℕ → List ColumnBuffers → Type 0
@@ -142,17 +148,16 @@ written-next codes rows n old columns now kind c one all l is at written e = rec
         subst (λ w. (k : Kind) × (kind_at (slice_index codes w) ≡ Some k) × IsWritten k (map content (raws_in rows w)) (get_or old w d) (get_or now w d)) here
         (kind, is, subst (IsWritten kind (map content (raws_in rows n)) (get_or old n d)) (sym found) (subst (λ x. IsWritten kind (map content (raws_in rows n)) x one) was written))
 
--- the next column is as it was: it says its count, and its buffers are long enough
-as-it-was : (codes : List ℕ) (rows : List (Vec Scalar Global)) (n : ℕ) (old columns : List ColumnBuffers) (c : ColumnBuffers) → AreWrittenIn codes rows n old columns → c ≡ get_or columns n c → c ≡ get_or old n c
-as-it-was codes rows n old columns c all at = at ∙ all.others n c (omega arith)
+-- one column more, as it is read out of the slice
+pub written-after : (codes : List ℕ) (rows : List (Vec Scalar Global)) (n : ℕ) (old columns : List ColumnBuffers) (kind : Kind) (d one : ColumnBuffers) → AreWrittenIn codes rows n old columns → n < length columns → kind_at (slice_index codes n) ≡ Some kind
+    → IsWritten kind (map content (raws_in rows n)) (get_or columns n d) one → AreWrittenIn codes rows (n + 1) old (set columns n one)
+written-after codes rows n old columns kind d one all l is written =
+    written-next codes rows n old columns (set columns n one) kind (get_or columns n d) one all l is (get_or_default columns n d (get_or columns n d) l) written refl
 
-pub count-there : (codes : List ℕ) (rows : List (Vec Scalar Global)) (n : ℕ) (old columns : List ColumnBuffers) (kind : Kind) (c : ColumnBuffers) → HaveCounts codes rows old → AreWrittenIn codes rows n old columns → n < length codes → kind_at (slice_index codes n) ≡ Some kind
-    → c ≡ get_or columns n c → c.count ≡ values_length kind (map content (raws_in rows n))
-count-there codes rows n old columns kind c counts all l is at = ap (λ (x : ColumnBuffers). x.count) (as-it-was codes rows n old columns c all at) ∙ counts n c kind l is
-
-pub space-there : (codes : List ℕ) (rows : List (Vec Scalar Global)) (n : ℕ) (old columns : List ColumnBuffers) (kind : Kind) (c : ColumnBuffers) → HaveSpace codes rows (length codes) old → AreWrittenIn codes rows n old columns → n < length codes
-    → kind_at (slice_index codes n) ≡ Some kind → c ≡ get_or columns n c → HasSpace kind (length rows) c
-space-there codes rows n old columns kind c space all l is at = subst (HasSpace kind (length rows)) (sym (as-it-was codes rows n old columns c all at)) (space n c kind l is)
+-- the buffers of the next column are as they were
+pub space-there : (codes : List ℕ) (rows : List (Vec Scalar Global)) (n : ℕ) (old columns : List ColumnBuffers) (kind : Kind) (d : ColumnBuffers) → HaveSpace codes rows (length codes) old → AreWrittenIn codes rows n old columns → n < length codes
+    → kind_at (slice_index codes n) ≡ Some kind → HasSpace kind (length rows) (get_or columns n d)
+space-there codes rows n old columns kind d space all l is = subst (HasSpace kind (length rows)) (sym (all.others n d (omega arith))) (space n d kind l is)
 
 -- the count that was written between does not matter
 pub written-before : (kind : Kind) (cells : List Content) (count : ℕ) (old between new : ColumnBuffers) → between ≡ record old { count = count } → IsWritten kind cells between new → IsWritten kind cells old new

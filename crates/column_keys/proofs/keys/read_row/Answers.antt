@@ -6,7 +6,7 @@ use Rattle.column_keys.proofs.keys.read_row.Goals as goal
 
 pub overflow_add-result : goal.overflow_add-result
 overflow_add-result c =
-    let bad = (c.in-Err-BadKey.ensures.bad c.in-Err-BadKey.place (ap Err c.in-Err-BadKey.field-0-is)).within in
+    let bad = (c.in-Err-BadKey.ensures.bad c.in-Err-BadKey.bad (ap Err c.in-Err-BadKey.field-0-is)).within in
     omega (arith, c.in_ok-key.ensures.2)
 
 pub returns-clause-cells : goal.returns-clause-cells
