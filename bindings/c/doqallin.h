@@ -219,8 +219,7 @@ struct doqallin_column_buffers {
  * BAD_OFFSETS: the offsets of the key fault->place go down, or past the end of the bytes.
  * BAD_BYTES: a key is of no row of the kinds. fault->place is the first of all bytes that none has there, or the end of a key that
  * ends too early. Of these two the first key decides.
- * NO_MEMORY: may come in place of all but WRONG_LENGTH. Memory is asked for each column, and for the values of all rows, of which
- * each takes some 80 bytes.
+ * NO_MEMORY: may come in place of all but WRONG_LENGTH. Memory is asked for each column, and for the values of all rows at once.
  * Under each status but GIVEN the buffers stay as they were. */
 uint32_t doqallin_columns_of_row_keys(const uint8_t *kinds, size_t kinds_length, const uint8_t *options, size_t options_length,
                                       const uint64_t *offsets, size_t offsets_length, const uint8_t *bytes, size_t bytes_length,
