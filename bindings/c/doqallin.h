@@ -193,26 +193,37 @@ uint32_t doqallin_row_keys(const struct doqallin_column *columns, size_t column_
                            size_t options_length, uint64_t *offsets_buffer, size_t offsets_buffer_length, uint8_t *buffer,
                            size_t buffer_length, size_t *count, struct doqallin_fault *fault);
 
-/* One column of the rows whose keys these are, in Arrow's layout: the column `which` of columns of these kinds, by their codes,
- * each with its byte of options, as doqallin_row_keys has them. The key of row k goes from offsets[k] to offsets[k + 1], so
- * that n rows have n + 1 offsets; no rows may have none. Keys may come from anywhere: each is tested first.
- * GIVEN: validity_buffer has a bit for each row, 0 for a null, in its first (n + 7) / 8 bytes. values_buffer begins with the
- * *count bytes of the values: items of the kind, 0 for a null; bits of booleans; or the bytes of all strings, none for a null.
- * Of strings and bytes offsets_buffer begins with n + 1 offsets, of 64 bits each, also for the kinds with offsets of 32 bits;
- * of other kinds it is not written. What follows stays as it was.
- * BUFFER_TOO_SMALL: a buffer is too short. *count, which is all that is written, says how many bytes the values have.
- * WRONG_LENGTH: the options are not as many as the kinds, or there is no column `which`. fault->column is the number of kinds.
+/* Where a column is written, in Arrow's layout: buffers of its bits, of its values and of its offsets. `count` is written: how many
+ * bytes the values have. */
+struct doqallin_column_buffers {
+    uint8_t *validity;
+    size_t validity_length;
+    uint8_t *values;
+    size_t values_length;
+    uint64_t *offsets;
+    size_t offsets_length;
+    size_t count;
+};
+
+/* The columns of the rows whose keys these are: of these kinds, by their codes, each with its byte of options, as
+ * doqallin_row_keys has them. The key of row k goes from offsets[k] to offsets[k + 1], so that n rows have n + 1 offsets; no rows
+ * may have none. Keys may come from anywhere: each is tested first, and read once.
+ * GIVEN: of each column `validity` has a bit for each row, 0 for a null, in its first (n + 7) / 8 bytes. `values` begins with
+ * `count` bytes: items of the kind, 0 for a null; bits of booleans; or the bytes of all strings, none for a null. Of strings and
+ * bytes `offsets` begins with n + 1 offsets, of 64 bits each, also for the kinds with offsets of 32 bits; of other kinds it is not
+ * written. What follows stays as it was.
+ * BUFFER_TOO_SMALL: a buffer is too short. The counts, which are all that is written, say how many bytes the values of each column
+ * have. A call without buffers asks for them.
+ * WRONG_LENGTH: the options are not as many as the kinds, or the columns are not. fault->column is the number of kinds.
  * BAD_OPTIONS: the byte of fault->column is above 3. UNKNOWN_KIND: the code of fault->column is of no kind.
  * BAD_OFFSETS: the offsets of the key fault->place go down, or past the end of the bytes.
  * BAD_BYTES: a key is of no row of the kinds. fault->place is the first of all bytes that none has there, or the end of a key that
  * ends too early. Of these two the first key decides.
- * NO_MEMORY: memory is asked for each column, for the values of a row, and for what is written.
+ * NO_MEMORY: may come in place of all but WRONG_LENGTH. Memory is asked for each column, and for the values of all rows at once.
  * Under each status but GIVEN the buffers stay as they were. */
-uint32_t doqallin_column_of_row_keys(const uint8_t *kinds, size_t kinds_length, const uint8_t *options, size_t options_length,
-                                     const uint64_t *offsets, size_t offsets_length, const uint8_t *bytes, size_t bytes_length,
-                                     size_t which, uint8_t *validity_buffer, size_t validity_buffer_length, uint8_t *values_buffer,
-                                     size_t values_buffer_length, uint64_t *offsets_buffer, size_t offsets_buffer_length,
-                                     size_t *count, struct doqallin_fault *fault);
+uint32_t doqallin_columns_of_row_keys(const uint8_t *kinds, size_t kinds_length, const uint8_t *options, size_t options_length,
+                                      const uint64_t *offsets, size_t offsets_length, const uint8_t *bytes, size_t bytes_length,
+                                      struct doqallin_column_buffers *columns, size_t column_count, struct doqallin_fault *fault);
 
 /* The statistics of a column in their stable encoding (docs/STATISTICS.md): its counts, and its least and its greatest value. If
  * these are strings or bytes, they are cut to max_length bytes: then they are bounds, and no values.

@@ -272,14 +272,24 @@ static void row_keys(void) {
     CHECK(doqallin_row_keys(two, 1, BYTES("\2"), starts, 3, buffer, BUFFER, &count, &fault) == DOQALLIN_BUFFER_TOO_SMALL && count == SIZE_MAX);
 }
 
-// The column `which` of keys of these kinds, into buffers of `values` and `starts` bytes and offsets; and that nothing but an error is
-// written.
-static uint64_t starts[3];
+// The columns of keys of these kinds, the column `which` into buffers of `values` and `starts` bytes and offsets, and any other into
+// buffers that suffice; and that nothing but an error is written.
+static uint64_t starts[3], spare_starts[3];
+static uint8_t spare_bits[BUFFER], spare[BUFFER];
+static struct doqallin_column_buffers made[2];
 
-static uint32_t back(const char *kinds, const char *options, const uint64_t *offsets, size_t ends, const char *keys, size_t length, size_t which, size_t bits, size_t values, size_t places) {
+static uint32_t back_to(size_t many, const char *kinds, const char *options, const uint64_t *offsets, size_t ends, const char *keys, size_t length, size_t which, size_t bits, size_t values, size_t places) {
     fresh();
     starts[0] = starts[1] = starts[2] = 9;
-    return doqallin_column_of_row_keys((const uint8_t *)kinds, strlen(kinds), (const uint8_t *)options, strlen(options), offsets, ends, (const uint8_t *)keys, length, which, other, bits, buffer, values, starts, places, &count, &fault);
+    made[1 - which] = (struct doqallin_column_buffers){spare_bits, BUFFER, spare, BUFFER, spare_starts, 3, 77};
+    made[which] = (struct doqallin_column_buffers){other, bits, buffer, values, starts, places, 77};
+    uint32_t status = doqallin_columns_of_row_keys((const uint8_t *)kinds, strlen(kinds), (const uint8_t *)options, strlen(options), offsets, ends, (const uint8_t *)keys, length, made, many, &fault);
+    count = made[which].count;
+    return status;
+}
+
+static uint32_t back(const char *kinds, const char *options, const uint64_t *offsets, size_t ends, const char *keys, size_t length, size_t which, size_t bits, size_t values, size_t places) {
+    return back_to(strlen(kinds), kinds, options, offsets, ends, keys, length, which, bits, values, places);
 }
 
 static int no_column(void) { return count == 77 && is_kept(buffer, 0) && is_kept(other, 0) && starts[0] == 9 && starts[1] == 9 && starts[2] == 9; }
@@ -293,20 +303,21 @@ static void columns_of_keys(void) {
     fault = (struct doqallin_fault){77, 78};
     CHECK(back("\5\x0a", "\2\1", offsets, 3, keys, 8, 0, BUFFER, BUFFER, 0) == DOQALLIN_GIVEN && at_fault(77, 78));
     CHECK(count == 4 && !memcmp(buffer, "\xff\xff\7\0", 4) && is_kept(buffer, 4) && other[0] == 3 && is_kept(other, 1) && starts[0] == 9);
+    CHECK(made[1].count == 1 && spare[0] == 'a' && spare_bits[0] == 1 && spare_starts[0] == 0 && spare_starts[1] == 1 && spare_starts[2] == 1);
     for (int kind = 9; kind <= 10; kind++) {
         const char kinds[] = {5, (char)kind, 0};
         CHECK(back(kinds, "\2\1", offsets, 3, keys, 8, 1, 1, BUFFER, 3) == DOQALLIN_GIVEN && at_fault(77, 78));
         CHECK(count == 1 && holds(buffer, count, "a") && other[0] == 1 && is_kept(other, 1));
         CHECK(starts[0] == 0 && starts[1] == 1 && starts[2] == 1);
     }
-    CHECK(back("\5\x0a", "\2\1", offsets, 3, keys, 8, 0, 1, 3, 0) == DOQALLIN_BUFFER_TOO_SMALL && count == 4 && at_fault(77, 78));
+    CHECK(back("\5\x0a", "\2\1", offsets, 3, keys, 8, 0, 1, 3, 0) == DOQALLIN_BUFFER_TOO_SMALL && count == 4 && made[1].count == 1 && at_fault(77, 78));
     count = 77;
     CHECK(no_column());
     CHECK(back("\5\x0a", "\2\1", offsets, 3, keys, 8, 0, 0, 4, 0) == DOQALLIN_BUFFER_TOO_SMALL && count == 4);
     CHECK(back("\5\x0a", "\2\1", offsets, 3, keys, 8, 1, 1, 1, 2) == DOQALLIN_BUFFER_TOO_SMALL && count == 1);
     CHECK(back("\5\x0a", "\2\1", offsets, 3, keys, 8, 1, 1, 0, 3) == DOQALLIN_BUFFER_TOO_SMALL && count == 1);
     CHECK(back("\5\x0a", "\2", offsets, 3, keys, 8, 0, 1, 4, 0) == DOQALLIN_WRONG_LENGTH && at_fault(2, 0) && no_column());
-    CHECK(back("\5\x0a", "\2\1", offsets, 3, keys, 8, 2, 1, 4, 0) == DOQALLIN_WRONG_LENGTH && at_fault(2, 0) && no_column());
+    CHECK(back_to(1, "\5\x0a", "\2\1", offsets, 3, keys, 8, 0, 1, 4, 0) == DOQALLIN_WRONG_LENGTH && at_fault(2, 0) && no_column());
     CHECK(back("\5\x0e", "\2\1", offsets, 3, keys, 8, 0, 1, 4, 0) == DOQALLIN_UNKNOWN_KIND && at_fault(1, 0) && no_column());
     CHECK(back("\5\x0e", "\2\4", offsets, 3, keys, 8, 0, 1, 4, 0) == DOQALLIN_BAD_OPTIONS && at_fault(1, 0) && no_column());
     CHECK(back("\5\x0a", "\2\1", down, 3, keys, 8, 0, 1, 4, 0) == DOQALLIN_BAD_OFFSETS && at_fault(0, 1) && no_column());
@@ -659,7 +670,11 @@ static uint32_t take_memory(int which) {
     case 9: return doqallin_prepare_filter(BYTES("b = true"), flags, 1, 256, buffer, BUFFER, &count, &mistake);
     case 10: return doqallin_filter_mask(is_true, sizeof is_true, &bools, 1, 1, 32, buffer, 1, &fault);
     case 11: return doqallin_filter_outcomes(is_true, sizeof is_true, buffer, 0, offsets_of_none, 2, 32, buffer, 1, &fault);
-    case 12: return doqallin_column_of_row_keys(BYTES("\x09"), BYTES("\2"), ends_of_key, 2, BYTES("\x15" LONG "\0"), 0, other, BUFFER, buffer, BUFFER, starts, 3, &count, &fault);
+    case 12:
+        made[0] = (struct doqallin_column_buffers){other, BUFFER, buffer, BUFFER, starts, 3, 77};
+        uint32_t status = doqallin_columns_of_row_keys(BYTES("\x09"), BYTES("\2"), ends_of_key, 2, BYTES("\x15" LONG "\0"), made, 1, &fault);
+        count = made[0].count;
+        return status;
     default: exit(2);
     }
 }

@@ -100,10 +100,18 @@ static int is_column(const struct doqallin_column *of, size_t rows) {
     return count == size && bitmap[bits] == 'q' && is_kept(size, has_offsets ? rows + 1 : 0) && (!has_offsets || places[0] == 0);
 }
 
+// Reads both columns back, this one into `size` bytes of the buffer, and the other into buffers of its own.
 static uint32_t column_back(const uint8_t *kinds, const uint8_t *options, const uint64_t *starts, size_t rows, const uint8_t *keys, size_t length, size_t which, size_t size) {
+    static uint8_t spare_bits[sizeof bitmap], spare[BUFFER];
+    static uint64_t spare_places[ROWS + 2];
     fresh();
     memset(bitmap, 'q', sizeof bitmap);
-    return doqallin_column_of_row_keys(kinds, 2, options, 2, starts, rows + 1, keys, length, which, bitmap, sizeof bitmap, buffer, size, places, ROWS + 2, &count, &fault);
+    struct doqallin_column_buffers both[2];
+    both[which] = (struct doqallin_column_buffers){bitmap, sizeof bitmap, buffer, size, places, ROWS + 2, count};
+    both[1 - which] = (struct doqallin_column_buffers){spare_bits, sizeof spare_bits, spare, BUFFER, spare_places, ROWS + 2, count};
+    uint32_t status = doqallin_columns_of_row_keys(kinds, 2, options, 2, starts, rows + 1, keys, length, both, 2, &fault);
+    count = both[which].count;
+    return status;
 }
 
 // The columns of the keys in `wanted` are those of the rows. With a byte changed, keys are told as wrong, or give columns whose keys

@@ -30,11 +30,13 @@ static void merge(void) { doqallin_merge_statistics(two[0].kind, form, form_leng
 static void read_parts(void) { doqallin_read_statistics(two[0].kind, form, form_length, buffer, BUFFER, other, BUFFER, &parts, &fault); }
 
 static uint8_t row_keys[BUFFER];
-static uint64_t row_ends[ROWS + 2];
+static uint64_t row_ends[ROWS + 2], ends[ROWS + 2];
+static uint8_t more[BUFFER], values[BUFFER];
 static size_t keys_length, rows_of_keys;
 static void back(void) {
     const uint8_t kinds[] = {two[0].kind, two[1].kind};
-    doqallin_column_of_row_keys(kinds, 2, options, 2, row_ends, rows_of_keys + 1, row_keys, keys_length, n % 2, other, BUFFER, buffer, BUFFER, places, ROWS + 2, &count, &fault);
+    struct doqallin_column_buffers columns[] = {{other, BUFFER, buffer, BUFFER, places, ROWS + 2, 0}, {more, BUFFER, values, BUFFER, ends, ROWS + 2, 0}};
+    doqallin_columns_of_row_keys(kinds, 2, options, 2, row_ends, rows_of_keys + 1, row_keys, keys_length, columns, 2, &fault);
 }
 
 static void (*const calls[])(void) = {cast, front, keys, back, bytes_bounds, text_bounds, upper_bound, statistics, merge, read_parts};

@@ -15,7 +15,7 @@ from ._arrow import is_arrow
 from ._columns import BINARY, BOOL, CODES, EMPTY, LARGE_BINARY, LARGE_UTF8, NULL, UTF8, Buffer, Column, buffer_of, code_of
 from ._errors import KindsDiffer, WrongLength
 from ._kinds import WIDTHS
-from ._library import BUFFER_TOO_SMALL, Fault, check_column, new_buffer, new_offsets
+from ._library import BUFFER_TOO_SMALL, ColumnBuffers, Fault, check_column, new_buffer, new_offsets
 from ._reading import column, columns, raw_columns
 from ._types import DType
 
@@ -97,40 +97,45 @@ def from_row_keys(
         raise KindsDiffer("a null is no key")
     codes = bytes(code_of(of) for of in kinds)
     options = _options(len(codes), descending, nulls_first)
-    return [_column_of(one, codes, options, which) for which in range(len(codes))]
-
-
-def _column_of(keys: Column, codes: bytes, options: bytes, which: int) -> Column:
-    rows, code = len(keys), codes[which]
-    is_text = code in (UTF8, CODES["binary"])
-    bitmap = (rows + 7) // 8
-    most = keys._values.length if is_text else bitmap if code == BOOL else WIDTHS[code] * rows if code < BOOL else 0
-    validity, values, offsets = new_buffer(bitmap), new_buffer(most), new_offsets(rows + 1)
-    places, count, fault = _offsets_of(keys), c_size_t(), Fault()
-    status = _library.column_of_row_keys(
+    places, rows, fault = _offsets_of(one), len(one), Fault()
+    made = [_Made(code, rows, one._values.length) for code in codes]
+    raws = (ColumnBuffers * len(made))(*(buffers.raw() for buffers in made))
+    status = _library.columns_of_row_keys(
         codes,
         len(codes),
         options,
         len(options),
         places.address,
         rows + 1,
-        keys._values.address,
-        keys._values.length,
-        which,
-        validity,
-        bitmap,
-        values,
-        most,
-        offsets,
-        rows + 1,
-        byref(count),
+        one._values.address,
+        one._values.length,
+        raws,
+        len(made),
         byref(fault),
     )
     check_column(status, fault)
-    if code == NULL:
-        return Column._of(NULL, rows)
-    nulls = Buffer(ctypes.addressof(validity), bitmap, validity) if bitmap else EMPTY
-    made = Buffer(ctypes.addressof(values), count.value, values) if count.value else EMPTY
-    large = LARGE_UTF8 if code == UTF8 else LARGE_BINARY
-    ends = Buffer(ctypes.addressof(offsets), 8 * (rows + 1), offsets) if is_text else EMPTY
-    return Column._of(large if is_text else code, rows, made, ends, nulls)
+    return [buffers.column(raw.count) for buffers, raw in zip(made, raws)]
+
+
+class _Made:
+    """Buffers for a column of so many rows, whose strings have at most so many bytes together."""
+
+    def __init__(self, code: int, rows: int, most: int) -> None:
+        self.code, self.rows, self.is_text = code, rows, code in (UTF8, CODES["binary"])
+        self.bitmap = (rows + 7) // 8
+        size = most if self.is_text else self.bitmap if code == BOOL else WIDTHS[code] * rows if code < BOOL else 0
+        self.validity, self.values = new_buffer(self.bitmap), new_buffer(size)
+        self.offsets = new_offsets(rows + 1 if self.is_text else 0)
+
+    def raw(self) -> ColumnBuffers:
+        each = ((ctypes.addressof(buffer), len(buffer)) for buffer in (self.validity, self.values, self.offsets))
+        return ColumnBuffers(*(part for pair in each for part in pair), 0)
+
+    def column(self, count: int) -> Column:
+        if self.code == NULL:
+            return Column._of(NULL, self.rows)
+        nulls = Buffer(ctypes.addressof(self.validity), self.bitmap, self.validity) if self.bitmap else EMPTY
+        made = Buffer(ctypes.addressof(self.values), count, self.values) if count else EMPTY
+        large = LARGE_UTF8 if self.code == UTF8 else LARGE_BINARY
+        ends = Buffer(ctypes.addressof(self.offsets), 8 * (self.rows + 1), self.offsets) if self.is_text else EMPTY
+        return Column._of(large if self.is_text else self.code, self.rows, made, ends, nulls)

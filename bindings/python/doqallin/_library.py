@@ -62,6 +62,19 @@ class RawColumn(ctypes.Structure):
     ]
 
 
+class ColumnBuffers(ctypes.Structure):
+    count: int
+    _fields_ = [
+        ("validity", c_void_p),
+        ("validity_length", c_size_t),
+        ("values", c_void_p),
+        ("values_length", c_size_t),
+        ("offsets", c_void_p),
+        ("offsets_length", c_size_t),
+        ("count", c_size_t),
+    ]
+
+
 class Fault(ctypes.Structure):
     column: int
     place: int
@@ -147,9 +160,7 @@ prepare_filter = _declare("prepare_filter", c_uint32, *_BYTES, *_SPACE, c_size_t
 filter_outcomes = _declare("filter_outcomes", c_uint32, *_BYTES, *_BYTES, *_SPACE, c_size_t, *_SPACE, _OUT)
 filter_mask = _declare("filter_mask", c_uint32, *_BYTES, *_SPACE, c_size_t, c_size_t, *_SPACE, _OUT)
 row_keys = _declare("row_keys", c_uint32, *_SPACE, *_BYTES, *_SPACE, *_SPACE, _OUT, _OUT)
-column_of_row_keys = _declare(
-    "column_of_row_keys", c_uint32, *_BYTES, *_BYTES, *_SPACE, *_SPACE, c_size_t, *_SPACE, *_SPACE, *_SPACE, _OUT, _OUT
-)
+columns_of_row_keys = _declare("columns_of_row_keys", c_uint32, *_BYTES, *_BYTES, *_SPACE, *_SPACE, *_SPACE, _OUT)
 
 
 # A buffer of this size holds most answers.

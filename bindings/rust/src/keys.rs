@@ -37,7 +37,7 @@ pub enum KeysError {
     BadBytes(usize),
     /// The offsets of this key go down, or past the end of the bytes.
     BadOffsets(usize),
-    /// There is no such column, or there are not as many options as kinds.
+    /// There are not as many options as kinds.
     WrongLength,
 }
 
@@ -48,7 +48,7 @@ impl fmt::Display for KeysError {
             KeysError::BadOffsets(row) => {
                 write!(f, "the offsets of key {row} go down, or past the end")
             }
-            KeysError::WrongLength => f.write_str("there are not as many as there are to be"),
+            KeysError::WrongLength => f.write_str("there are not as many options as kinds"),
         }
     }
 }
@@ -179,31 +179,33 @@ impl RowKeys {
         (&self.offsets, &self.bytes)
     }
 
-    /// The column `which` of the rows whose keys these are, by the options that the keys were made with.
+    /// The columns of the rows whose keys these are, by the options that the keys were made with. Each key is read once.
     ///
     /// ```
     /// use doqallin::{Column, Item, Kind, SortOptions, row_keys};
     ///
     /// let numbers = Column::integers(&[3i64, 0]).with_validity(&[1]);
     /// let keys = row_keys(&[numbers], &[SortOptions::default()])?;
-    /// let back = keys.column(&[Kind::I64], &[SortOptions::default()], 0)?;
-    /// assert_eq!((back.get(0), back.get(1)), (Some(Item::Integer(3)), None));
+    /// let back = keys.columns(&[Kind::I64], &[SortOptions::default()])?;
+    /// assert_eq!((back[0].get(0), back[0].get(1)), (Some(Item::Integer(3)), None));
     /// # Ok::<(), Box<dyn std::error::Error>>(())
     /// ```
-    pub fn column(
+    pub fn columns(
         &self,
         kinds: &[Kind],
         options: &[SortOptions],
-        which: usize,
-    ) -> Result<OwnedColumn, KeysError> {
-        let kind = kinds.get(which).ok_or(KeysError::WrongLength)?.large();
+    ) -> Result<Vec<OwnedColumn>, KeysError> {
         let codes: Vec<u8> = kinds.iter().map(|kind| *kind as u8).collect();
         let options = option_bytes(options);
-        let mut made = OwnedColumn::buffer_for(kind, self.len(), self.bytes.len());
-        let (mut count, mut fault) = (0, raw::Fault::default());
-        // SAFETY: each pointer and length are of one slice; the buffers, `count` and `fault` are places of their own.
+        let buffers_for =
+            |kind: &Kind| OwnedColumn::buffer_for(kind.large(), self.len(), self.bytes.len());
+        let mut made: Vec<OwnedColumn> = kinds.iter().map(buffers_for).collect();
+        let mut buffers: Vec<raw::ColumnBuffers> =
+            made.iter_mut().map(OwnedColumn::buffers).collect();
+        let mut fault = raw::Fault::default();
+        // SAFETY: each pointer and length are of one slice; the buffers and `fault` are places of their own.
         let status = unsafe {
-            raw::doqallin_column_of_row_keys(
+            raw::doqallin_columns_of_row_keys(
                 codes.as_ptr(),
                 codes.len(),
                 options.as_ptr(),
@@ -212,20 +214,19 @@ impl RowKeys {
                 self.offsets.len(),
                 self.bytes.as_ptr(),
                 self.bytes.len(),
-                which,
-                made.validity.as_mut_ptr(),
-                made.validity.len(),
-                made.values.as_mut_ptr(),
-                made.values.len(),
-                made.offsets.as_mut_ptr(),
-                made.offsets.len(),
-                &mut count,
+                buffers.as_mut_ptr(),
+                buffers.len(),
                 &mut fault,
             )
         };
         match status {
             raw::GIVEN => {
-                made.values.truncate(count);
+                for (column, written) in made.iter_mut().zip(&buffers) {
+                    column.values.truncate(written.count);
+                    if written.count < column.values.capacity() / 2 {
+                        column.values.shrink_to_fit();
+                    }
+                }
                 Ok(made)
             }
             raw::BAD_BYTES => Err(KeysError::BadBytes(fault.place)),
@@ -272,6 +273,19 @@ impl OwnedColumn {
             validity: vec![0; bitmap],
             values: vec![0; values],
             offsets: vec![0; offsets],
+        }
+    }
+
+    /// Where the column is written.
+    fn buffers(&mut self) -> raw::ColumnBuffers {
+        raw::ColumnBuffers {
+            validity: self.validity.as_mut_ptr(),
+            validity_length: self.validity.len(),
+            values: self.values.as_mut_ptr(),
+            values_length: self.values.len(),
+            offsets: self.offsets.as_mut_ptr(),
+            offsets_length: self.offsets.len(),
+            count: 0,
         }
     }
 

@@ -41,6 +41,18 @@ pub struct ArrowColumn {
     pub length: usize,
 }
 
+/// Where a column is written.
+#[repr(C)]
+pub struct ColumnBuffers {
+    pub validity: *mut u8,
+    pub validity_length: usize,
+    pub values: *mut u8,
+    pub values_length: usize,
+    pub offsets: *mut u64,
+    pub offsets_length: usize,
+    pub count: usize,
+}
+
 #[repr(C)]
 #[derive(Default)]
 pub struct Fault {
@@ -211,7 +223,7 @@ unsafe extern "C" {
         count: &mut usize,
         fault: &mut Fault,
     ) -> u32;
-    pub fn doqallin_column_of_row_keys(
+    pub fn doqallin_columns_of_row_keys(
         kinds: *const u8,
         kinds_length: usize,
         options: *const u8,
@@ -220,14 +232,8 @@ unsafe extern "C" {
         offsets_length: usize,
         bytes: *const u8,
         bytes_length: usize,
-        which: usize,
-        validity_buffer: *mut u8,
-        validity_buffer_length: usize,
-        values_buffer: *mut u8,
-        values_buffer_length: usize,
-        offsets_buffer: *mut u64,
-        offsets_buffer_length: usize,
-        count: &mut usize,
+        columns: *mut ColumnBuffers,
+        column_count: usize,
         fault: &mut Fault,
     ) -> u32;
     pub fn doqallin_prepare_filter(

@@ -521,10 +521,13 @@ fn keys_sort_as_rows_and_come_back() {
             let wanted = plain_key(&row(place), &options);
             assert_eq!(keys.get(place), Some(&wanted[..]), "{:?}", row(place));
         }
-        for (which, part) in made.iter().enumerate() {
-            let back = keys.column(&kinds, &options, which).unwrap();
+        let back = keys.columns(&kinds, &options).unwrap();
+        assert_eq!(back.len(), made.len());
+        for (column, part) in back.iter().zip(&made) {
             assert_eq!(
-                (0..length).map(|place| back.get(place)).collect::<Vec<_>>(),
+                (0..length)
+                    .map(|place| column.get(place))
+                    .collect::<Vec<_>>(),
                 part.rows
             );
         }
@@ -547,9 +550,9 @@ fn hostile_keys() {
             .windows(2)
             .all(|pair| pair[0] <= pair[1] && pair[1] <= bytes.len() as u64);
         let keys = RowKeys::from_parts(offsets, bytes);
-        match keys.column(&[kind], &[SortOptions::default()], 0) {
+        match keys.columns(&[kind], &[SortOptions::default()]) {
             Ok(back) => {
-                assert!(are_sound && back.len() == keys.len());
+                assert!(are_sound && back.len() == 1 && back[0].len() == keys.len());
                 read += 1;
             }
             Err(KeysError::BadOffsets(_)) => assert!(!are_sound),
@@ -559,14 +562,8 @@ fn hostile_keys() {
     }
     assert!(read > count() / 100, "{read}");
     let keys = RowKeys::from_parts(vec![0], Vec::new());
-    assert_eq!(
-        keys.column(&[Kind::U8], &[], 0),
-        Err(KeysError::WrongLength)
-    );
-    assert_eq!(
-        keys.column(&[Kind::U8], &[SortOptions::default()], 1),
-        Err(KeysError::WrongLength)
-    );
+    assert_eq!(keys.columns(&[Kind::U8], &[]), Err(KeysError::WrongLength));
+    assert_eq!(keys.columns(&[], &[]), Ok(Vec::new()));
 }
 
 #[test]

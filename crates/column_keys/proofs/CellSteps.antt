@@ -1,22 +1,19 @@
--- What a row has in a column, by what its key decodes to.
+-- The row that a key decodes to, or why there is none.
+use Rattle.std.specs.Global.{Global}
 use Rattle.std.proofs.Common.{◌≡◌, ◌≢◌, ◌∙◌, ℕ, ◌+◌, ◌<◌, inl, inr, List, [], ◌++◌, length, map, get_or, append-nil, refl, sym, subst, ap, arith}
-use Rattle.std.specs.Prelude.{Result, Ok, Err, IsErr, IsErrAnd, IfErr, slice_index}
-use Rattle.std.proofs.lemmas.List.{get_or-map, length-append, length-map, nil_from_length}
-use Rattle.vortex_dtype.specs.TypeOf.{type_of}
+use Rattle.std.specs.Prelude.{Result, Ok, Err, IsErr, IsErrAnd, IfErr, Vec, slice_index}
+use Rattle.std.proofs.lemmas.List.{length-append, nil_from_length}
 use Rattle.vortex_dtype.specs.TypeTree.{TypeTrees}
-use Rattle.vortex_value.specs.Values.Content.{content}
-use Rattle.vortex_value.specs.Values.RawTree.{absent}
-use Rattle.vortex_value.specs.Values.Scalars.{scalar_content, scalar_raw}
+use Rattle.vortex_value.specs.Values.Scalars.{scalar_raw}
 use Rattle.vortex_value.specs.declared.scalars.Scalar.{Scalar}
 use Rattle.vortex_value.specs.TypesWithin.{AllHaveVariants}
-use Rattle.vortex_row.specs.Decoded.{BeginsWithRow, IsDecodedRow, IsFirstBad, IsRowKeyOf, IsValueOf, values_key}
+use Rattle.vortex_row.specs.Decoded.{BeginsWithRow, IsDecodedRow, IsFirstBad, IsRowKeyOf, values_key}
 use Rattle.vortex_row.specs.declared.options.SortOptions.{SortOptions}
-use Rattle.column_keys.specs.Cells.{AreTyped, HasCell, IsPlaced, key_at, type_in, types_in}
+use Rattle.column_keys.specs.Cells.{AreTyped, IsPlaced, IsRowOf, key_at, types_in}
 use Rattle.column_keys.specs.Errors.{GoesOnAfter, IsRowReadError, IsWrongKey}
 use Rattle.column_keys.specs.declared.errors.KeysError.{KeysError}
 use Rattle.column_keys.specs.declared.errors.KeysError.TheVariants.{BadBytes, BadOffsets}
 use Rattle.column_keys.specs.declared.keys.RowKeys.{RowKeys}
-use Rattle.column_keys.proofs.RowLaws.{value-there, values-count}
 
 -- the key is no longer than what was read of it
 whole-key : (os : List SortOptions) (ts : TypeTrees) (key : List ℕ) (xs : List Scalar) (n : ℕ) → IsDecodedRow os ts key xs n → ¬ (n < length key) → BeginsWithRow os ts key (map scalar_raw xs) []
@@ -25,24 +22,13 @@ whole-key os ts key xs n decoded all =
     let none : decoded.rest ≡ [] = nil_from_length decoded.rest (omega (arith, longer, decoded.count, all)) in
     subst (λ rest. BeginsWithRow os ts key (map scalar_raw xs) rest) none decoded.begins
 
--- the row has a value in the column
-pub cell-within : (keys : RowKeys) (key : List ℕ) (xs : List Scalar) (n : ℕ) → AreTyped keys → IsDecodedRow keys.options.now (types_in keys) key xs n → keys.which < length xs
-cell-within keys key xs n typed decoded =
-    let raws = map scalar_raw xs in
-    let counts = values-count (map type_of keys.dtypes.now) raws decoded.begins.values in
-    omega (arith, typed.within, counts, length-map raws content, length-map xs scalar_raw, length-map keys.dtypes.now type_of)
-
-pub cell-found : (keys : RowKeys) (row : ℕ) (key : List ℕ) (xs : List Scalar) (n : ℕ) (x : Scalar) → AreTyped keys → IsPlaced keys.bytes.now keys.offsets.now row → key ≡ key_at keys.bytes.now keys.offsets.now row
-    → IsDecodedRow keys.options.now (types_in keys) key xs n → ¬ (n < length key) → x ≡ get_or xs keys.which x → HasCell keys row (scalar_content x) × IsValueOf (type_in keys) (scalar_raw x)
-cell-found keys row key xs n x typed placed is decoded all at =
-    let begins = whole-key keys.options.now (types_in keys) key xs n decoded all in
-    let raws = map scalar_raw xs in
-    let within = cell-within keys key xs n typed decoded in
-    let found : get_or raws keys.which absent ≡ scalar_raw x = get_or-map scalar_raw xs keys.which x absent within ∙ ap scalar_raw (sym at) in
-    let value = value-there (map type_of keys.dtypes.now) raws keys.which begins.values (omega (arith, typed.within, length-map keys.dtypes.now type_of)) in (
-      record { placed = placed; cell = record { values = raws; row = subst (λ k. BeginsWithRow keys.options.now (types_in keys) k raws []) is begins; is = ap content (sym found) } },
-      subst (IsValueOf (type_in keys)) found value,
-    )
+-- the row that a key decodes to
+pub row-found : (keys : RowKeys) (row : ℕ) (key : List ℕ) (xs : List Scalar) (n : ℕ) → IsPlaced keys.bytes.now keys.offsets.now row → key ≡ key_at keys.bytes.now keys.offsets.now row → IsDecodedRow keys.options.now (types_in keys) key xs n → ¬ (n < length key)
+    → IsRowOf keys row (map scalar_raw xs)
+row-found keys row key xs n placed is decoded all = record {
+  placed = placed;
+  begins = subst (λ k. BeginsWithRow keys.options.now (types_in keys) k (map scalar_raw xs) []) is (whole-key keys.options.now (types_in keys) key xs n decoded all);
+}
 
 -- ---- why there is none
 
@@ -73,6 +59,6 @@ key-bad keys row key p typed placed is bad =
     let first : IsFirstBad (IsRowKeyOf keys.options.now (types_in keys)) (Unit {0}) key p = record { within = bad.within; before = λ u. bad.before typed.filled; bad = bad.bad; no_key = bad.no_key } in
     (placed, (p, refl, subst (λ k. IsWrongKey keys.options.now (types_in keys) k p) is (inl first)))
 
-pub not-placed : (keys : RowKeys) (row : ℕ) (r : Result Scalar KeysError) (e : KeysError) → IsErr r × IsErrAnd r (λ f. f ≡ e) → (e ≡ BadOffsets row) × ¬ (IsPlaced keys.bytes.now keys.offsets.now row) → IfErr r (IsRowReadError keys row)
+pub not-placed : (keys : RowKeys) (row : ℕ) (r : Result (Vec Scalar Global) KeysError) (e : KeysError) → IsErr r × IsErrAnd r (λ f. f ≡ e) → (e ≡ BadOffsets row) × ¬ (IsPlaced keys.bytes.now keys.offsets.now row) → IfErr r (IsRowReadError keys row)
 not-placed keys row (Ok x) e h w = tt
 not-placed keys row (Err f) e h w = subst (IsRowReadError keys row) (sym (h.1 ∙ w.0)) (refl, w.1)

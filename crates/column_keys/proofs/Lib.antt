@@ -2,16 +2,16 @@ mod BitSteps
 mod CellColumns
 mod CellSteps
 mod ColumnSteps
+mod ColumnsRead
 pub mod GivenSteps
 mod LawSteps
 mod NullSteps
 mod NumberSteps
-mod ReadSteps
 mod RowLaws
 mod RowSteps
+mod RowsRead
 mod StringSteps
 mod TableLaws
 mod TableSteps
 mod TypeSteps
 mod ValueSteps
-mod WriteSteps

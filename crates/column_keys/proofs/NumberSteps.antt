@@ -22,9 +22,7 @@ use Rattle.vortex_pvalue.specs.Numbers.{InRange}
 use Rattle.vortex_value.specs.Validity.{Valid}
 use Rattle.vortex_value.specs.Values.Content.{Content, content, null}
 use Rattle.vortex_value.specs.Values.RawTree.{RawTree, absent, raw_bool, raw_bytes, raw_integer, raw_text, raw_tuple, raw_union, raw_variant}
-use Rattle.column_keys.specs.Cells.{AreCells, HasCell, count_in}
 use Rattle.column_keys.specs.Layout.{AreIntegers, number_in}
-use Rattle.column_keys.specs.declared.keys.RowKeys.{RowKeys}
 
 pub width-is : (kind : IntegerKind) → byte_width_of (ptype_of_kind kind) ≡ width_of kind
 width-is U8 = refl
@@ -92,31 +90,30 @@ number-fits p (raw_variant t v) h = absurd h
 
 -- ---- the integers of the rows so far
 
-abbrev pub AreIntegersBefore : IntegerKind → RowKeys → ℕ → List ℕ → Type 0
-AreIntegersBefore kind keys row values = (k : ℕ) (c : Content) → k < row → HasCell keys k c → integer_of kind (item_at (width_of kind) values k) ≡ number_in c
+abbrev pub AreIntegersBefore : IntegerKind → List Content → ℕ → List ℕ → Type 0
+AreIntegersBefore kind cells row values = (k : ℕ) → k < row → integer_of kind (item_at (width_of kind) values k) ≡ number_in (get_or cells k null)
 
-pub integers-none : (kind : IntegerKind) (keys : RowKeys) (values : List ℕ) → AreIntegersBefore kind keys 0 values
-integers-none kind keys values k c l has = absurd (omega (arith, l))
+pub integers-none : (kind : IntegerKind) (cells : List Content) (values : List ℕ) → AreIntegersBefore kind cells 0 values
+integers-none kind cells values k l = absurd (omega (arith, l))
 
-pub integers-more : (kind : IntegerKind) (keys : RowKeys) (row : ℕ) (values now : List ℕ) (d : Content) (p : PType) (z : ℤ) → ((c : Content) → HasCell keys row c → c ≡ d) → AreIntegersBefore kind keys row values → p ≡ ptype_of_kind kind → z ≡ number_in d
-    → InRange (ptype_of_kind kind) (number_in d) → item_at (byte_width_of p) now row ≡ bytes_of p z → ((k : ℕ) → k < row → item_at (byte_width_of p) now k ≡ item_at (byte_width_of p) values k) → AreIntegersBefore kind keys (row + 1) now
-integers-more kind keys row values now d p z same all typed is fits here before k c l has = by_place (cases_lt k row)
+pub integers-more : (kind : IntegerKind) (cells : List Content) (row : ℕ) (values now : List ℕ) (d : Content) (p : PType) (z : ℤ) → get_or cells row null ≡ d → AreIntegersBefore kind cells row values → p ≡ ptype_of_kind kind → z ≡ number_in d
+    → InRange (ptype_of_kind kind) (number_in d) → item_at (byte_width_of p) now row ≡ bytes_of p z → ((k : ℕ) → k < row → item_at (byte_width_of p) now k ≡ item_at (byte_width_of p) values k) → AreIntegersBefore kind cells (row + 1) now
+integers-more kind cells row values now d p z there all typed is fits here before k l = by_place (cases_lt k row)
   where
     width : byte_width_of p ≡ width_of kind
     width = ap byte_width_of typed ∙ width-is kind
 
-    by_place : (k < row) ⊎ (row ≤ k) → integer_of kind (item_at (width_of kind) now k) ≡ number_in c
-    by_place (inl less) = ap (integer_of kind) (ap (λ w. item_at w now k) (sym width) ∙ before k less ∙ ap (λ w. item_at w values k) width) ∙ all k c less has
+    by_place : (k < row) ⊎ (row ≤ k) → integer_of kind (item_at (width_of kind) now k) ≡ number_in (get_or cells k null)
+    by_place (inl less) = ap (integer_of kind) (ap (λ w. item_at w now k) (sym width) ∙ before k less ∙ ap (λ w. item_at w values k) width) ∙ all k less
     by_place (inr after) =
         let at : row ≡ k = omega (arith, after, l) in
-        let one : c ≡ d = same c (subst (λ i. HasCell keys i c) (sym at) has) in
         let bytes : item_at (width_of kind) now row ≡ bytes_of (ptype_of_kind kind) (number_in d) = ap (λ w. item_at w now row) (sym width) ∙ here ∙ ap (λ q. bytes_of q z) typed ∙ ap (bytes_of (ptype_of_kind kind)) is in
-        subst (λ i. integer_of kind (item_at (width_of kind) now i) ≡ number_in c) at (ap (integer_of kind) bytes ∙ integer-back kind (number_in d) fits ∙ ap number_in (sym one))
+        subst (λ i. integer_of kind (item_at (width_of kind) now i) ≡ number_in (get_or cells i null)) at (ap (integer_of kind) bytes ∙ integer-back kind (number_in d) fits ∙ ap number_in (sym there))
 
-pub integers-done : (kind : IntegerKind) (keys : RowKeys) (row : ℕ) (values : List ℕ) → row ≡ count_in keys → AreIntegersBefore kind keys row values → (cells : List Content) → AreCells keys cells → AreIntegers kind cells values
-integers-done kind keys row values at all cells are k l = all k (get_or cells k null) (omega (arith, l, at, are.count)) (are.each k l)
+pub integers-done : (kind : IntegerKind) (cells : List Content) (row : ℕ) (values : List ℕ) → row ≡ length cells → AreIntegersBefore kind cells row values → AreIntegers kind cells values
+integers-done kind cells row values at all k l = all k (omega (arith, l, at))
 
--- the buffer holds the integer of a row
+-- there is buffer for the integer of a row
 pub number-buffer : (kind : IntegerKind) (p : PType) (row count size : ℕ) → p ≡ ptype_of_kind kind → row < count → count * width_of kind ≤ size → (row + 1) * byte_width_of p ≤ size
 number-buffer kind p row count size typed l buffer =
     let width : byte_width_of p ≡ width_of kind = ap byte_width_of typed ∙ width-is kind in

@@ -1,9 +1,8 @@
 -- What a row has in a column is one content.
 use Rattle.std.proofs.Common.{◌≡◌, ◌∙◌, ℕ, zero, suc, ◌<◌, List, [], ◌∷◌, ◌++◌, length, map, get_or, refl, sym, ap, arith}
 use Rattle.std.specs.List.{All}
-use Rattle.std.proofs.lemmas.List.{length-map}
 use Rattle.std.proofs.lemmas.List.Elements.{All-cons, All-nil}
-use Rattle.vortex_dtype.specs.TypeOf.{as_type_trees, type_of}
+use Rattle.vortex_dtype.specs.TypeOf.{as_type_trees}
 use Rattle.vortex_dtype.specs.TypeTree.{TypeTree, null_type}
 use Rattle.vortex_value.specs.Equality.{HasNoTyped}
 use Rattle.vortex_value.specs.TypesWithin.{HaveNoVariant}
@@ -13,8 +12,7 @@ use Rattle.vortex_row.specs.Decoded.{AreValuesOf, IsValueOf, values_key}
 use Rattle.vortex_row.specs.Held.{IsHeld}
 use Rattle.vortex_row.specs.Laws.{KeysAreApart, ValuesHaveNoTyped}
 use Rattle.vortex_row.specs.declared.options.SortOptions.{SortOptions}
-use Rattle.column_keys.specs.Cells.{AreTyped, HasCell, IsCellOf, key_at}
-use Rattle.column_keys.specs.declared.keys.RowKeys.{RowKeys}
+use Rattle.column_keys.specs.Cells.{IsCellOf}
 
 -- ---- values of types
 
@@ -59,11 +57,3 @@ pub one-content : KeysAreApart → ValuesHaveNoTyped → (types : List TypeTree)
 one-content apart law types os which key c d counts plain one other =
     let same = rows-apart apart law types os one.values other.values [] [] counts plain one.row.values other.row.values (sym one.row.is ∙ other.row.is) in
     one.is ∙ content-there one.values which ∙ ap (λ cs. get_or cs which null) same.0 ∙ sym (other.is ∙ content-there other.values which)
-
-types-counts : (keys : RowKeys) → AreTyped keys → length (map type_of keys.dtypes.now) ≡ length keys.options.now
-types-counts keys typed = length-map keys.dtypes.now type_of ∙ typed.counts
-
--- what a row has in the column is one content
-pub one-cell : KeysAreApart → ValuesHaveNoTyped → (keys : RowKeys) (row : ℕ) (c d : Content) → AreTyped keys → HasCell keys row c → HasCell keys row d → c ≡ d
-one-cell apart law keys row c d typed one other =
-    one-content apart law (map type_of keys.dtypes.now) keys.options.now keys.which (key_at keys.bytes.now keys.offsets.now row) c d (types-counts keys typed) typed.plain one.cell other.cell

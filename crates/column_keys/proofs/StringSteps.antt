@@ -1,15 +1,12 @@
 -- The strings of rows.
-use Rattle.std.proofs.Common.{◌≡◌, ◌∙◌, ℕ, ◌+◌, ◌-◌, ◌^◌, ◌<◌, ◌≤◌, ◌⊎◌, if◌then◌else◌, inl, inr, List, ◌++◌, length, drop, get_or, set, sym, subst, ap, ap₂, arith}
+use Rattle.std.proofs.Common.{◌≡◌, ◌∙◌, ℕ, zero, suc, ◌+◌, ◌<◌, ◌≤◌, ◌⊎◌, inl, inr, List, [], ◌∷◌, ◌++◌, length, drop, take, get_or, refl, set, sym, subst, ap, ap₂, arith}
 use Rattle.std.specs.Prelude.{slice_index, slice_range}
-use Rattle.std.proofs.Math.Dec.{leb}
-use Rattle.std.proofs.lemmas.Bool.{cases_lt, le-leb}
-use Rattle.std.proofs.lemmas.List.{drop_at, get_or-set_other, get_or-set_same, length-append, take-append-le, take_all}
+use Rattle.std.proofs.lemmas.Bool.{cases_lt}
+use Rattle.std.proofs.lemmas.List.{drop_at, get_or-set_other, get_or-set_same, length-append, take-append-le, take_all, take_more}
 use Rattle.std.proofs.lemmas.Slice.{between_is}
 use Rattle.vortex_value.specs.Size.{capped}
 use Rattle.vortex_value.specs.Values.Content.{Content, null}
-use Rattle.column_keys.specs.Cells.{AreCells, HasCell, count_in}
-use Rattle.column_keys.specs.Layout.{AreStrings, bytes_in}
-use Rattle.column_keys.specs.declared.keys.RowKeys.{RowKeys}
+use Rattle.column_keys.specs.Layout.{AreStrings, bytes_in, bytes_length}
 
 -- ---- what was kept before stays
 
@@ -22,33 +19,59 @@ range-put xs bs p q e f =
 
 -- ---- the strings of the rows so far
 
-pub record AreStringsBefore (keys : RowKeys) (row place : ℕ) (values offsets : List ℕ) : Type 0 where
+pub record AreStringsBefore (cells : List Content) (row : ℕ) (values offsets : List ℕ) : Type 0 where
   pub start : slice_index offsets 0 ≡ 0
-  pub here : slice_index offsets row ≡ place
-  pub size : length values ≡ place
-  pub below : (k : ℕ) → k ≤ row → slice_index offsets k ≤ place
-  pub ends : (k : ℕ) (c : Content) → k < row → HasCell keys k c → slice_index offsets (k + 1) ≡ slice_index offsets k + length (bytes_in c)
-  pub strings : (k : ℕ) (c : Content) → k < row → HasCell keys k c → slice_range values (slice_index offsets k) (slice_index offsets (k + 1)) ≡ bytes_in c
+  pub here : slice_index offsets row ≡ length values
+  pub size : length values ≡ bytes_length (take row cells)
+  pub below : (k : ℕ) → k ≤ row → slice_index offsets k ≤ length values
+  pub ends : (k : ℕ) → k < row → slice_index offsets (k + 1) ≡ slice_index offsets k + length (bytes_in (get_or cells k null))
+  pub strings : (k : ℕ) → k < row → slice_range values (slice_index offsets k) (slice_index offsets (k + 1)) ≡ bytes_in (get_or cells k null)
 
-pub strings-none : (keys : RowKeys) (values offsets : List ℕ) → length values ≡ 0 → slice_index offsets 0 ≡ 0 → AreStringsBefore keys 0 0 values offsets
-strings-none keys values offsets none e = record {
+pub strings-none : (cells : List Content) (values offsets : List ℕ) → length values ≡ 0 → slice_index offsets 0 ≡ 0 → AreStringsBefore cells 0 values offsets
+strings-none cells values offsets none e = record {
   start = e;
-  here = e;
+  here = e ∙ sym none;
   size = none;
-  below = λ k l. let at : k ≡ 0 = omega (arith, l) in subst (λ i. slice_index offsets i ≤ 0) (sym at) (omega (arith, e));
-  ends = λ k c l has. absurd (omega (arith, l));
-  strings = λ k c l has. absurd (omega (arith, l));
+  below = λ k l. let at : k ≡ 0 = omega (arith, l) in subst (λ i. slice_index offsets i ≤ length values) (sym at) (omega (arith, e));
+  ends = λ k l. absurd (omega (arith, l));
+  strings = λ k l. absurd (omega (arith, l));
 }
 
-pub strings-more : (keys : RowKeys) (row place next : ℕ) (values now offsets : List ℕ) (d : Content) → row + 1 < length offsets → ((c : Content) → HasCell keys row c → c ≡ d) → AreStringsBefore keys row place values offsets
-    → now ≡ values ++ bytes_in d → next ≡ place + length (bytes_in d) → AreStringsBefore keys (row + 1) next now (set offsets (row + 1) next)
-strings-more keys row place next values now offsets d inside same all is more = record {
+length-pushed : (cells : List Content) (d : Content) → bytes_length (cells ++ d ∷ []) ≡ bytes_length cells + length (bytes_in d)
+length-pushed [] d = omega arith
+length-pushed (c ∷ cells) d = let more = length-pushed cells d in omega arith
+
+-- the bytes of one cell more
+pub length-more : (cells : List Content) (row : ℕ) (d : Content) → row < length cells → get_or cells row null ≡ d → bytes_length (take (row + 1) cells) ≡ bytes_length (take row cells) + length (bytes_in d)
+length-more cells row d within there =
+    let pushed = length-pushed (take row cells) (get_or cells row null) in
+    let taken = ap bytes_length (take_more cells row null within) in
+    let same = ap (λ c. length (bytes_in c)) there in
+    omega (arith, pushed, taken, same)
+
+length-front : (cells : List Content) (n : ℕ) → bytes_length (take n cells) ≤ bytes_length cells
+length-front [] zero = omega arith
+length-front [] (suc n) = omega arith
+length-front (c ∷ cells) zero = omega arith
+length-front (c ∷ cells) (suc n) = let less = length-front cells n in omega (arith, less)
+
+-- the buffer holds the bytes of the next cell
+pub length-fits : (cells : List Content) (row place : ℕ) (d : Content) → row < length cells → get_or cells row null ≡ d → place ≡ bytes_length (take row cells) → place + length (bytes_in d) ≤ bytes_length cells
+length-fits cells row place d within there at = let more = length-more cells row d within there in let less = length-front cells (row + 1) in omega (arith, more, less, at)
+
+-- how many bytes were counted
+pub counted-more : (cells : List Content) (row total part now : ℕ) (d : Content) → row < length cells → get_or cells row null ≡ d → total ≡ capped (bytes_length (take row cells)) → part ≡ length (bytes_in d) → now ≡ capped (total + part) → now ≡ capped (bytes_length (take (row + 1) cells))
+counted-more cells row total part now d within there is e f = let more = length-more cells row d within there in omega (arith, more, is, e, f)
+
+pub strings-more : (cells : List Content) (row next : ℕ) (values now offsets : List ℕ) (d : Content) → row < length cells → row + 1 < length offsets → get_or cells row null ≡ d → AreStringsBefore cells row values offsets
+    → now ≡ values ++ bytes_in d → next ≡ length now → AreStringsBefore cells (row + 1) now (set offsets (row + 1) next)
+strings-more cells row next values now offsets d within inside there all is count = record {
   start = kept 0 (omega arith) ∙ all.start;
-  here = last;
-  size = ap length is ∙ length-append values (bytes_in d) ∙ ap (λ n. n + length (bytes_in d)) all.size ∙ sym more;
+  here = last ∙ count;
+  size = sized;
   below = λ k g. below_at k (cases_lt k (row + 1)) g;
-  ends = λ k c g has. ends_at k c (cases_lt k row) g has;
-  strings = λ k c g has. strings_at k c (cases_lt k row) g has;
+  ends = λ k g. ends_at k (cases_lt k row) g;
+  strings = λ k g. strings_at k (cases_lt k row) g;
 }
   where
     kept : (k : ℕ) → k ≤ row → slice_index (set offsets (row + 1) next) k ≡ slice_index offsets k
@@ -57,41 +80,42 @@ strings-more keys row place next values now offsets d inside same all is more = 
     last : slice_index (set offsets (row + 1) next) (row + 1) ≡ next
     last = get_or-set_same offsets (row + 1) next 0 inside
 
-    below_at : (k : ℕ) → (k < row + 1) ⊎ (row + 1 ≤ k) → k ≤ row + 1 → slice_index (set offsets (row + 1) next) k ≤ next
-    below_at k (inl less) g = let few : k ≤ row = omega (arith, less) in omega (arith, kept k few, all.below k few, more)
-    below_at k (inr least) g = let at : k ≡ row + 1 = omega (arith, least, g) in subst (λ i. slice_index (set offsets (row + 1) next) i ≤ next) (sym at) (omega (arith, last))
+    more : next ≡ length values + length (bytes_in d)
+    more = count ∙ ap length is ∙ length-append values (bytes_in d)
 
-    ends_at : (k : ℕ) (c : Content) → (k < row) ⊎ (row ≤ k) → k < row + 1 → HasCell keys k c → slice_index (set offsets (row + 1) next) (k + 1) ≡ slice_index (set offsets (row + 1) next) k + length (bytes_in c)
-    ends_at k c (inl less) g has = kept (k + 1) (omega (arith, less)) ∙ all.ends k c less has ∙ ap (λ n. n + length (bytes_in c)) (sym (kept k (omega (arith, less))))
-    ends_at k c (inr least) g has =
+    sized : length now ≡ bytes_length (take (row + 1) cells)
+    sized =
+        let grown = length-more cells row d within there in
+        omega (arith, grown, more, count, all.size)
+
+    below_at : (k : ℕ) → (k < row + 1) ⊎ (row + 1 ≤ k) → k ≤ row + 1 → slice_index (set offsets (row + 1) next) k ≤ length now
+    below_at k (inl less) g = let few : k ≤ row = omega (arith, less) in omega (arith, kept k few, all.below k few, more, count)
+    below_at k (inr least) g = let at : k ≡ row + 1 = omega (arith, least, g) in subst (λ i. slice_index (set offsets (row + 1) next) i ≤ length now) (sym at) (omega (arith, last, count))
+
+    ends_at : (k : ℕ) → (k < row) ⊎ (row ≤ k) → k < row + 1 → slice_index (set offsets (row + 1) next) (k + 1) ≡ slice_index (set offsets (row + 1) next) k + length (bytes_in (get_or cells k null))
+    ends_at k (inl less) g = kept (k + 1) (omega (arith, less)) ∙ all.ends k less ∙ ap (λ n. n + length (bytes_in (get_or cells k null))) (sym (kept k (omega (arith, less))))
+    ends_at k (inr least) g =
         let at : row ≡ k = omega (arith, least, g) in
-        let one : c ≡ d = same c (subst (λ i. HasCell keys i c) (sym at) has) in
-        subst (λ i. slice_index (set offsets (row + 1) next) (i + 1) ≡ slice_index (set offsets (row + 1) next) i + length (bytes_in c)) at
-        (last ∙ more ∙ ap₂ (λ p bs. p + length bs) (sym (kept row (omega arith) ∙ all.here)) (ap bytes_in (sym one)))
+        subst (λ i. slice_index (set offsets (row + 1) next) (i + 1) ≡ slice_index (set offsets (row + 1) next) i + length (bytes_in (get_or cells i null))) at
+        (last ∙ more ∙ ap₂ (λ p bs. p + length bs) (sym (kept row (omega arith) ∙ all.here)) (ap bytes_in (sym there)))
 
-    strings_at : (k : ℕ) (c : Content) → (k < row) ⊎ (row ≤ k) → k < row + 1 → HasCell keys k c → slice_range now (slice_index (set offsets (row + 1) next) k) (slice_index (set offsets (row + 1) next) (k + 1)) ≡ bytes_in c
-    strings_at k c (inl less) g has =
+    strings_at : (k : ℕ) → (k < row) ⊎ (row ≤ k) → k < row + 1 → slice_range now (slice_index (set offsets (row + 1) next) k) (slice_index (set offsets (row + 1) next) (k + 1)) ≡ bytes_in (get_or cells k null)
+    strings_at k (inl less) g =
         ap₂ (λ a b. slice_range now a b) (kept k (omega (arith, less))) (kept (k + 1) (omega (arith, less)))
         ∙ ap (λ xs. slice_range xs (slice_index offsets k) (slice_index offsets (k + 1))) is
-        ∙ range-kept values (bytes_in d) (slice_index offsets k) (slice_index offsets (k + 1)) (omega (arith, all.below (k + 1) (omega (arith, less)), all.size))
-        ∙ all.strings k c less has
-    strings_at k c (inr least) g has =
+        ∙ range-kept values (bytes_in d) (slice_index offsets k) (slice_index offsets (k + 1)) (all.below (k + 1) (omega (arith, less)))
+        ∙ all.strings k less
+    strings_at k (inr least) g =
         let at : row ≡ k = omega (arith, least, g) in
-        let one : c ≡ d = same c (subst (λ i. HasCell keys i c) (sym at) has) in
-        subst (λ i. slice_range now (slice_index (set offsets (row + 1) next) i) (slice_index (set offsets (row + 1) next) (i + 1)) ≡ bytes_in c) at
-        (ap₂ (λ a b. slice_range now a b) (kept row (omega arith) ∙ all.here) last ∙ ap (λ xs. slice_range xs place next) is ∙ range-put values (bytes_in d) place next (sym all.size) more ∙ ap bytes_in (sym one))
+        subst (λ i. slice_range now (slice_index (set offsets (row + 1) next) i) (slice_index (set offsets (row + 1) next) (i + 1)) ≡ bytes_in (get_or cells i null)) at
+        (ap₂ (λ a b. slice_range now a b) (kept row (omega arith) ∙ all.here) last ∙ ap (λ xs. slice_range xs (length values) next) is ∙ range-put values (bytes_in d) (length values) next refl more ∙ ap bytes_in (sym there))
 
--- a string is kept if the buffer holds it and those before
-pub strings-kept : (keys : RowKeys) (row total next buffer : ℕ) (values now bytes offsets : List ℕ) (d : Content) → row + 1 < length offsets → buffer < 2 ^ 64 - 1 → ((c : Content) → HasCell keys row c → c ≡ d) → (total ≤ buffer → AreStringsBefore keys row total values offsets)
-    → bytes ≡ bytes_in d → next ≡ capped (total + length bytes) → now ≡ (if leb next buffer then values ++ bytes else values) → next ≤ buffer → AreStringsBefore keys (row + 1) next now (set offsets (row + 1) next)
-strings-kept keys row total next buffer values now bytes offsets d inside small same all is more put l =
-    let size : length bytes ≡ length (bytes_in d) = ap length is in
-    let kept : now ≡ values ++ bytes_in d = put ∙ ap (λ b. if b then values ++ bytes else values) (le-leb next buffer l) ∙ ap (λ bs. values ++ bs) is in
-    strings-more keys row total next values now offsets d inside same (all (omega (arith, more, l, small))) kept (omega (arith, more, l, small, size))
-
-pub strings-done : (keys : RowKeys) (row place : ℕ) (values offsets : List ℕ) → row ≡ count_in keys → AreStringsBefore keys row place values offsets → (cells : List Content) → AreCells keys cells → AreStrings cells values offsets
-strings-done keys row place values offsets at all cells are = record {
-  start = all.start;
-  ends = λ k l. all.ends k (get_or cells k null) (omega (arith, l, at, are.count)) (are.each k l);
-  strings = λ k l. all.strings k (get_or cells k null) (omega (arith, l, at, are.count)) (are.each k l);
-}
+-- all bytes are in place
+pub strings-done : (cells : List Content) (row place : ℕ) (values offsets : List ℕ) → row ≡ length cells → length values ≡ bytes_length cells → place ≡ length (take place values) → AreStringsBefore cells row (take place values) offsets → AreStrings cells values offsets
+strings-done cells row place values offsets at size here all =
+    let whole : take place values ≡ values = take_all place values (omega (arith, size, here, all.size, ap bytes_length (take_all row cells (omega (arith, at))))) in
+    record {
+      start = all.start;
+      ends = λ k l. all.ends k (omega (arith, l, at));
+      strings = λ k l. ap (λ bs. slice_range bs (slice_index offsets k) (slice_index offsets (k + 1))) (sym whole) ∙ all.strings k (omega (arith, l, at));
+    }

@@ -1,10 +1,14 @@
--- Keys of rows one after another, and what one of the columns has in these rows.
-use Rattle.std.specs.Prelude.{◌≡◌, ℕ, ◌+◌, ◌-◌, ◌<◌, ◌≤◌, List, [], length, map, slice_index, slice_index_or, slice_range}
-use Rattle.vortex_dtype.specs.TypeOf.{dtype_trees, type_of}
-use Rattle.vortex_dtype.specs.TypeTree.{TypeTree, TypeTrees, null_type}
+-- Keys of rows one after another, the rows, and what one of the columns has in these.
+use Rattle.std.specs.Global.{Global}
+use Rattle.std.specs.List.{All}
+use Rattle.std.specs.Prelude.{◌≡◌, ℕ, ◌+◌, ◌-◌, ◌<◌, ◌≤◌, List, [], length, map, slice_index, slice_index_or, slice_range, Vec}
+use Rattle.vortex_dtype.specs.TypeOf.{dtype_trees}
+use Rattle.vortex_dtype.specs.TypeTree.{TypeTrees}
 use Rattle.vortex_value.specs.TypesWithin.{AllHaveVariants, HaveNoVariant}
 use Rattle.vortex_value.specs.Values.Content.{Content, content, null}
 use Rattle.vortex_value.specs.Values.RawTree.{RawTree, absent}
+use Rattle.vortex_value.specs.Values.Scalars.{scalar_raw}
+use Rattle.vortex_value.specs.declared.scalars.Scalar.{Scalar}
 use Rattle.vortex_row.specs.Decoded.{BeginsWithRow}
 use Rattle.vortex_row.specs.declared.options.SortOptions.{SortOptions}
 use Rattle.column_keys.specs.declared.keys.RowKeys.{RowKeys}
@@ -37,27 +41,37 @@ pub record AreCellsOf (options : List SortOptions) (types : TypeTrees) (which : 
   pub count : length cells ≡ key_count offsets
   pub each : (row : ℕ) → row < length cells → IsCellAt options types which bytes offsets row (slice_index_or cells row null)
 
--- the types of the columns, and that of the column that is asked for
+-- the key of a row is one of a row of these values
+pub record IsRowAt (options : List SortOptions) (types : TypeTrees) (bytes offsets : List ℕ) (row : ℕ) (values : List RawTree) : Type 0 where
+  pub placed : IsPlaced bytes offsets row
+  pub begins : BeginsWithRow options types (key_at bytes offsets row) values []
+
+-- the types of the columns
 abbrev pub types_in : RowKeys → TypeTrees
 types_in keys = dtype_trees keys.dtypes.now
-
-abbrev pub type_in : RowKeys → TypeTree
-type_in keys = slice_index_or (map type_of keys.dtypes.now) keys.which null_type
 
 -- how many rows there are
 abbrev pub count_in : RowKeys → ℕ
 count_in keys = key_count keys.offsets.now
 
--- there are as many options as types, one is of the column, and none of the types has variants or is a union without any
+-- there are as many options as types, and none of the types has variants or is a union without any
 pub record AreTyped (keys : RowKeys) : Type 0 where
   pub counts : length keys.dtypes.now ≡ length keys.options.now
-  pub within : keys.which < length keys.dtypes.now
   pub plain : HaveNoVariant (types_in keys)
   pub filled : AllHaveVariants (types_in keys)
 
--- what the column has in a row of these keys, and in all rows
-abbrev pub HasCell : RowKeys → ℕ → Content → Type 0
-HasCell keys row c = IsCellAt keys.options.now (types_in keys) keys.which keys.bytes.now keys.offsets.now row c
+-- a row of these keys has these values
+abbrev pub IsRowOf : RowKeys → ℕ → List RawTree → Type 0
+IsRowOf keys row values = IsRowAt keys.options.now (types_in keys) keys.bytes.now keys.offsets.now row values
 
-abbrev pub AreCells : RowKeys → List Content → Type 0
-AreCells keys cells = AreCellsOf keys.options.now (types_in keys) keys.which keys.bytes.now keys.offsets.now cells
+-- these are the rows of the keys
+pub record AreRowsOf (keys : RowKeys) (rows : List (Vec Scalar Global)) : Type 0 where
+  pub count : length rows ≡ key_count keys.offsets.now
+  pub each : (k : ℕ) (d : Vec Scalar Global) → k < length rows → IsRowOf keys k (map scalar_raw (slice_index_or rows k d).items)
+
+-- each row has a column of this number, and its values there
+abbrev pub HaveColumn : List (Vec Scalar Global) → ℕ → Type 0
+HaveColumn rows which = All (λ cells. which < length cells.items) rows
+
+abbrev pub raws_in : List (Vec Scalar Global) → ℕ → List RawTree
+raws_in rows which = map (λ cells. slice_index_or (map scalar_raw cells.items) which absent) rows

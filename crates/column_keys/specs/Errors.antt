@@ -1,10 +1,10 @@
 -- Why bytes are no keys of rows.
 use Rattle.std.specs.Prelude.{◌≡◌, ◌≢◌, ℕ, ◌+◌, ◌<◌, ◌⊎◌, List, [], ◌++◌, length, slice_index}
 use Rattle.vortex_dtype.specs.TypeTree.{TypeTrees}
-use Rattle.vortex_value.specs.Values.Content.{Content}
+use Rattle.vortex_value.specs.Values.RawTree.{RawTree}
 use Rattle.vortex_row.specs.Decoded.{IsFirstBad, IsRowKeyOf}
 use Rattle.vortex_row.specs.declared.options.SortOptions.{SortOptions}
-use Rattle.column_keys.specs.Cells.{IsCellAt, IsPlaced, key_at, key_count, types_in}
+use Rattle.column_keys.specs.Cells.{IsPlaced, IsRowAt, key_at, key_count, types_in}
 use Rattle.column_keys.specs.declared.errors.KeysError.{KeysError}
 use Rattle.column_keys.specs.declared.errors.KeysError.TheVariants.{BadBytes, BadOffsets, OutOfMemory}
 use Rattle.column_keys.specs.declared.keys.RowKeys.{RowKeys}
@@ -31,20 +31,20 @@ IsKeyErrorAt options types bytes offsets row (BadBytes place) =
 IsKeyErrorAt options types bytes offsets row _ = ⊥
 
 -- of the keys the first that is none
-pub record IsFirstError (options : List SortOptions) (types : TypeTrees) (which : ℕ) (bytes offsets : List ℕ) (fault : KeysError) : Type 0 where
+pub record IsFirstError (options : List SortOptions) (types : TypeTrees) (bytes offsets : List ℕ) (fault : KeysError) : Type 0 where
   pub row : ℕ
   pub within : row < key_count offsets
-  pub before : (k : ℕ) → k < row → (c : Content) × IsCellAt options types which bytes offsets k c
+  pub before : (k : ℕ) → k < row → (values : List RawTree) × IsRowAt options types bytes offsets k values
   pub cause : IsKeyErrorAt options types bytes offsets row fault
 
 -- why keys are refused
-abbrev pub RefusesKeys : List SortOptions → TypeTrees → ℕ → List ℕ → List ℕ → KeysError → Type 0
-RefusesKeys options types which bytes offsets OutOfMemory = Unit {0}
-RefusesKeys options types which bytes offsets fault = IsFirstError options types which bytes offsets fault
+abbrev pub RefusesKeys : List SortOptions → TypeTrees → List ℕ → List ℕ → KeysError → Type 0
+RefusesKeys options types bytes offsets OutOfMemory = Unit {0}
+RefusesKeys options types bytes offsets fault = IsFirstError options types bytes offsets fault
 
 -- the same of keys as they come
 abbrev pub IsRowReadError : RowKeys → ℕ → KeysError → Type 0
 IsRowReadError keys row fault = IsKeyErrorAt keys.options.now (types_in keys) keys.bytes.now keys.offsets.now row fault
 
 abbrev pub Refuses : RowKeys → KeysError → Type 0
-Refuses keys fault = RefusesKeys keys.options.now (types_in keys) keys.which keys.bytes.now keys.offsets.now fault
+Refuses keys fault = RefusesKeys keys.options.now (types_in keys) keys.bytes.now keys.offsets.now fault

@@ -50,12 +50,6 @@ values_length Boolean cells = bitmap_length (length cells)
 values_length Null cells = 0
 values_length kind cells = bytes_length cells
 
--- how many bytes the values of a column of so many rows have, whatever they are: none if they are strings or bytes
-abbrev pub fixed_length : Kind → ℕ → ℕ
-fixed_length (Integer kind) count = count * width_of kind
-fixed_length Boolean count = bitmap_length count
-fixed_length kind count = 0
-
 -- how many offsets a column of so many rows has
 abbrev pub offsets_length : Kind → ℕ → ℕ
 offsets_length (Integer kind) count = 0

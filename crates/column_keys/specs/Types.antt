@@ -1,5 +1,5 @@
 -- The types and the options of columns, by their codes, and why there are none.
-use Rattle.std.specs.Prelude.{◌≡◌, ◌≢◌, ℕ, ◌<◌, ◌≤◌, ◌⊎◌, List, length, map, slice_index, None}
+use Rattle.std.specs.Prelude.{◌≡◌, ◌≢◌, ℕ, ◌<◌, List, length, map, slice_index, None}
 use Rattle.arrow_columns.specs.Kinds.{kind_at}
 use Rattle.column_cells.specs.Types.{type_at}
 use Rattle.column_keys.specs.declared.errors.KeysError.{KeysError}
@@ -41,20 +41,16 @@ IsKindsError codes OutOfMemory = Unit {0}
 IsKindsError codes (UnknownKind k) = IsFirstUnknown codes k
 IsKindsError codes _ = ⊥
 
--- there are as many bytes of options as codes, and a column of this number
-abbrev pub HasColumn : List ℕ → List ℕ → ℕ → Type 0
-HasColumn codes bytes which = (length bytes ≡ length codes) × (which < length codes)
-
 -- why there are no columns of these kinds and options: the first reason in this order
-abbrev pub IsTypesError : List ℕ → List ℕ → ℕ → KeysError → Type 0
-IsTypesError codes bytes which OutOfMemory = Unit {0}
-IsTypesError codes bytes which WrongLength = (length bytes ≢ length codes) ⊎ (length codes ≤ which)
-IsTypesError codes bytes which (BadOptions k) = HasColumn codes bytes which × IsFirstBadOptions bytes k
-IsTypesError codes bytes which (UnknownKind k) = HasColumn codes bytes which × AreOptions bytes (length bytes) × IsFirstUnknown codes k
-IsTypesError codes bytes which _ = ⊥
+abbrev pub AreTypesError : List ℕ → List ℕ → KeysError → Type 0
+AreTypesError codes bytes OutOfMemory = length bytes ≡ length codes
+AreTypesError codes bytes WrongLength = length bytes ≢ length codes
+AreTypesError codes bytes (BadOptions k) = (length bytes ≡ length codes) × IsFirstBadOptions bytes k
+AreTypesError codes bytes (UnknownKind k) = (length bytes ≡ length codes) × AreOptions bytes (length bytes) × IsFirstUnknown codes k
+AreTypesError codes bytes _ = ⊥
 
--- the codes are of kinds and the bytes stand for options, as many as each other, and there is a column of this number
-pub record HasTypes (codes bytes : List ℕ) (which : ℕ) : Type 0 where
-  pub column : HasColumn codes bytes which
+-- the codes are of kinds and the bytes stand for options, as many as each other
+pub record HaveTypes (codes bytes : List ℕ) : Type 0 where
+  pub counts : length bytes ≡ length codes
   pub options' : AreOptions bytes (length bytes)
   pub kinds : AreKinds codes (length codes)

@@ -4,16 +4,16 @@ pub use Rattle.arrow_columns.specs.Integers.{integer_of, item_at, width_of}
 pub use Rattle.arrow_columns.specs.Kinds.{kind_at}
 pub use Rattle.column_cells.specs.Contents.{HasTexts, content_or_null, contents_of_rows}
 pub use Rattle.column_cells.specs.Types.{ptype_of_kind, type_of_kind}
-pub use Rattle.column_keys.specs.Answers.{IsColumnOfKeys, IsRefusal, offsets_length_at}
-pub use Rattle.column_keys.specs.Cells.{AreCells, AreCellsOf, AreTyped, HasCell, IsPlaced, count_in, key_at, key_count, type_in, types_in}
+pub use Rattle.column_keys.specs.Answers.{AreColumnsOfKeys, AreCountsOfKeys, IsRefusal}
+pub use Rattle.column_keys.specs.Cells.{AreRowsOf, AreTyped, HaveColumn, IsPlaced, IsRowOf, key_at, key_count, raws_in, types_in}
 pub use Rattle.column_keys.specs.Errors.{IsRowReadError, Refuses, RefusesKeys}
 pub use Rattle.column_keys.specs.Keys.{AreRowKeys, column_length, key_of_row, keys_length, row_of}
 pub use Rattle.column_keys.specs.Laws.{ColumnsComeBack, TablesComeBack}
-pub use Rattle.column_keys.specs.Layout.{AreBits, AreIntegers, AreStrings, IsColumnOf, bytes_in, bytes_length, contents_written, fixed_length, is_present, number_in, offsets_length, truth_in, values_length}
+pub use Rattle.column_keys.specs.Layout.{AreBits, AreIntegers, AreStrings, IsColumnOf, bytes_in, bytes_length, contents_written, is_present, number_in, offsets_length, truth_in, values_length}
 pub use Rattle.column_keys.specs.Tables.{AreReadFrom, AreSoundBefore, HasRow, HaveRows, IsErrorAt, IsReadFrom, IsTableError, contents_in, options_in, options_of, table_of}
 pub use Rattle.arrow_columns.specs.Columns.{rows_in}
-pub use Rattle.column_keys.specs.Types.{AreKinds, AreOptions, HasTypes, IsKindsError, IsOptionsError, IsTypesError, type_at_code, types_of_codes}
-pub use Rattle.column_keys.specs.declared.errors.KeysError.TheVariants.{BadBytes, BadOffsets, BadOptions, OutOfMemory, UnknownKind, WrongLength}
+pub use Rattle.column_keys.specs.Types.{AreKinds, AreOptions, AreTypesError, HaveTypes, IsKindsError, IsOptionsError, type_at_code, types_of_codes}
+pub use Rattle.column_keys.specs.declared.errors.KeysError.TheVariants.{BadBytes, BadOffsets, BadOptions, BufferTooSmall, OutOfMemory, UnknownKind, WrongLength}
 pub use Rattle.vortex_dtype.specs.PTypes.{byte_width_of}
 pub use Rattle.vortex_dtype.specs.TypeOf.{type_of}
 pub use Rattle.vortex_dtype.specs.TypeTree.{binary_type, bool_type, integer_type, null_type, utf8_type}
@@ -26,5 +26,6 @@ pub use Rattle.vortex_row.specs.Plain.{plain_content}
 pub use Rattle.vortex_row.specs.Slots.{HasSlot, Writes}
 pub use Rattle.vortex_value.specs.Size.{capped}
 pub use Rattle.vortex_value.specs.Validity.{Valid}
-pub use Rattle.vortex_value.specs.Values.Content.{Content, null, string, text, truth, whole}
+pub use Rattle.vortex_value.specs.Values.Content.{Content, content, null, string, text, truth, whole}
+pub use Rattle.vortex_value.specs.Values.RawTree.{absent}
 pub use Rattle.vortex_value.specs.Values.Scalars.{scalar_content, scalar_raw}

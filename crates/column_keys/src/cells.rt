@@ -1,12 +1,23 @@
-//! What a cell has to be written.
+//! The cells of a column in rows, and what a cell has to be written.
 
-ghost use Rattle.std.specs.Prelude.{◌≡◌};
-ghost use Rattle.column_keys.specs.Words.{Nullable, Valid, bytes_in, integer_type, is_present, number_in};
-ghost use Rattle.column_keys.specs.Words.{ptype_of, scalar_content, scalar_raw, truth_in, whole_of};
+ghost use Rattle.std.specs.Prelude.{◌≡◌, ◌<◌, length, slice_index_or};
+ghost use Rattle.column_keys.specs.Words.{HaveColumn, Nullable, Valid, absent, bytes_in, integer_type, is_present};
+ghost use Rattle.column_keys.specs.Words.{number_in, ptype_of, raws_in, scalar_content, scalar_raw, truth_in};
+ghost use Rattle.column_keys.specs.Words.{whole_of};
 
 use vortex_dtype::PType;
 use vortex_pvalue::PValue;
 use vortex_value::{Scalar, ScalarValue};
+
+/// The cell of a row in the column of this number.
+pub(crate) fn cell_at<'a>(rows: &'a [Vec<Scalar>], row: usize, which: usize) -> &'a Scalar
+    requires row { row < length rows.now }
+    requires column { HaveColumn rows.now which }
+    ensures { scalar_raw result.now ≡ slice_index_or (raws_in rows.now which) row absent }
+{
+    let cells = rows[row].as_slice();
+    &cells[which]
+}
 
 /// Whether the cell is no null.
 pub(crate) fn is_present(cell: &Scalar) -> bool

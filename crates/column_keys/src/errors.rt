@@ -1,4 +1,4 @@
-//! Why a table has no keys, and why keys give no column.
+//! Why a table has no keys, and why keys give no columns.
 
 ghost use Rattle.std.specs.Prelude.{◌≡◌};
 
@@ -31,13 +31,13 @@ impl From<AllocError> for TableError {
     }
 }
 
-/// Why keys of rows give no column. Of several kinds, options or keys it is the first with an
+/// Why keys of rows give no columns. Of several kinds, options or keys it is the first with an
 /// error.
 #[derive(Clone, Copy, Debug, PartialEq, Eq)]
 pub enum KeysError {
     /// An allocation was refused.
     OutOfMemory,
-    /// There are not as many options as kinds, or no column of that number.
+    /// There are not as many options as kinds, or not as many buffers.
     WrongLength,
     /// The code of the column is of no kind.
     UnknownKind { column: usize },
@@ -48,9 +48,8 @@ pub enum KeysError {
     /// The offset among all bytes of the first that no key of a row has there, or of the end of a
     /// key that ends too early.
     BadBytes { offset: usize },
-    /// A buffer is too short for the column, whose values have so many bytes: that number is the
-    /// greatest `usize` if they have as many or more.
-    BufferTooSmall { count: usize },
+    /// A buffer is too short for its column.
+    BufferTooSmall,
 }
 
 /// Out of memory, whatever was asked for.

@@ -1,9 +1,8 @@
-//! What is written of one row: integers and bytes.
+//! What is written of one row: an integer.
 
-ghost use Rattle.std.specs.Prelude.{◌≡◌, ◌+◌, ◌++◌, ◌*◌, ◌<◌, ◌≤◌, ℕ, OnOk, if◌then◌else◌, length};
+ghost use Rattle.std.specs.Prelude.{◌≡◌, ◌+◌, ◌*◌, ◌<◌, ◌≤◌, ℕ, length};
 ghost use Rattle.column_keys.specs.Words.{byte_width_of, bytes_of, item_at, ptype_of, whole_of};
 
-use std::alloc::AllocError;
 use vortex_pvalue::PValue;
 
 /// Writes the integer of this row.
@@ -17,15 +16,4 @@ pub(crate) fn put_number(values: &mut [u8], row: usize, number: PValue)
     let bytes = number.to_le_bytes();
     let start = row * bytes.len();
     values[start..start + bytes.len()].copy_from_slice(&bytes);
-}
-
-/// Puts bytes to the others if they are to be kept.
-pub(crate) fn put_bytes(values: &mut Vec<u8>, bytes: &[u8], is_kept: bool) -> Result<(), AllocError>
-    ensures { OnOk result (values.new.items
-        ≡ (if is_kept then values.old.items ++ bytes.now else values.old.items)) }
-{
-    if is_kept {
-        values.extend_from_slice(bytes)?;
-    }
-    Ok(())
 }

@@ -1,9 +1,8 @@
-//! Keys of rows, and what one column has in one of the rows.
+//! Keys of rows, and the rows that they decode to.
 
-ghost use Rattle.std.specs.Prelude.{◌≡◌, ◌+◌, ◌<◌, ◌≤◌, IfErr, IfOk, MatchResult, length, slice_index};
-ghost use Rattle.std.specs.Prelude.{slice_index_or};
-ghost use Rattle.column_keys.specs.Words.{AreTyped, BadOffsets, HasCell, IsPlaced, IsRowReadError, IsValueOf, key_at};
-ghost use Rattle.column_keys.specs.Words.{key_count, scalar_content, scalar_raw, type_in};
+ghost use Rattle.std.specs.Prelude.{◌≡◌, ◌+◌, ◌<◌, ◌≤◌, IfErr, IfOk, MatchResult, length, map, slice_index};
+ghost use Rattle.column_keys.specs.Words.{AreRowsOf, AreTyped, BadOffsets, IsPlaced, IsRowOf, IsRowReadError, Refuses};
+ghost use Rattle.column_keys.specs.Words.{key_at, key_count, scalar_raw};
 
 use crate::errors::KeysError;
 use std::alloc::Global;
@@ -11,7 +10,7 @@ use vortex_dtype::DType;
 use vortex_row::{RowError, SortOptions, decode_row_key};
 use vortex_value::Scalar;
 
-/// Keys of rows, one after the other, and which of the columns is asked for.
+/// Keys of rows, one after the other.
 #[derive(Clone, Copy)]
 pub(crate) struct RowKeys<'a> {
     /// The types of the columns.
@@ -22,8 +21,6 @@ pub(crate) struct RowKeys<'a> {
     pub(crate) offsets: &'a [u64],
     /// The keys.
     pub(crate) bytes: &'a [u8],
-    /// The column that is asked for.
-    pub(crate) which: usize,
 }
 
 /// How many keys there are: one less than offsets, and none if there is no offset.
@@ -50,17 +47,16 @@ fn key_at<'a>(keys: &RowKeys<'a>, row: usize) -> Result<&'a [u8], KeysError>
     Ok(&keys.bytes[start as usize..end as usize])
 }
 
-/// What the column has in a row, read from the row's key.
-pub(crate) fn read_cell(alloc: Global, keys: &RowKeys, row: usize) -> Result<Scalar, KeysError>
+/// The cells of a row, read from its key.
+fn read_row(alloc: Global, keys: &RowKeys, row: usize) -> Result<Vec<Scalar>, KeysError>
     requires typed { AreTyped keys.now }
     requires row { row < key_count keys.now.offsets.now }
-    ensures cell { IfOk result (λ x. HasCell keys.now row (scalar_content x)) }
-    ensures value { IfOk result (λ x. IsValueOf (type_in keys.now) (scalar_raw x)) }
+    ensures cells { IfOk result (λ cells. IsRowOf keys.now row (map scalar_raw cells.items)) }
     ensures fault { IfErr result (IsRowReadError keys.now row) }
 {
     let key = key_at(keys, row)?;
     let start = keys.offsets[row] as usize;
-    let (mut cells, taken) = match decode_row_key(alloc, keys.dtypes, keys.options, key) {
+    let (cells, taken) = match decode_row_key(alloc, keys.dtypes, keys.options, key) {
         Ok(decoded) => decoded,
         Err(RowError::BadKey { offset: bad }) => {
             return Err(KeysError::BadBytes {
@@ -75,15 +71,23 @@ pub(crate) fn read_cell(alloc: Global, keys: &RowKeys, row: usize) -> Result<Sca
             offset: start + taken,
         });
     }
-    Ok(take_cell(&mut cells, keys.which))
+    Ok(cells)
 }
 
-/// Takes the value at this place out of a row.
-fn take_cell(cells: &mut Vec<Scalar>, which: usize) -> Scalar
-    requires { which < length cells.old.items }
-    ensures { result ≡ slice_index_or cells.old.items which result }
+/// The cells of all rows, each key read once.
+///
+/// The first key with an error gives it: `BadOffsets` if its offsets go down or past the end of the
+/// bytes, and `BadBytes` if it is no key of a row of the types. `OutOfMemory` may come in place of
+/// these.
+pub(crate) fn read_rows(alloc: Global, keys: &RowKeys) -> Result<Vec<Vec<Scalar>>, KeysError>
+    requires { AreTyped keys.now }
+    ensures rows { IfOk result (λ rows. AreRowsOf keys.now rows.items) }
+    ensures fault { IfErr result (Refuses keys.now) }
 {
-    let count = cells.as_slice().len();
-    prove!(which < count);
-    cells.remove(which)
+    let mut rows = Vec::new(alloc);
+    for row in 0..key_count(keys.offsets) {
+        let cells = read_row(alloc, keys, row)?;
+        rows.push(cells)?;
+    }
+    Ok(rows)
 }

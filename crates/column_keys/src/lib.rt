@@ -4,8 +4,10 @@
 //! columns that keys of rows give back.
 #![tactic(auto)]
 
+mod buffers;
 mod cells;
 mod columns;
+mod counting;
 mod decoding;
 mod errors;
 mod items;
@@ -18,7 +20,8 @@ mod types;
 mod values;
 mod writing;
 
+pub use buffers::ColumnBuffers;
 pub use columns::{KeyColumn, options_of_byte, read_columns};
-pub use decoding::column_of_keys;
+pub use decoding::columns_of_keys;
 pub use errors::{KeysError, TableError};
 pub use table::{row_keys_length, write_row_keys};

@@ -1,9 +1,8 @@
 //! What keys are keys of: the types of columns, and how each is sorted.
 
-ghost use Rattle.std.specs.Prelude.{◌≡◌, ◌<◌, IfErr, IfOk, OnOk, Some, length, map, slice_index};
-ghost use Rattle.column_keys.specs.Words.{AreKinds, AreOptions, HasTypes, IsKindsError, IsOptionsError};
-ghost use Rattle.column_keys.specs.Words.{IsTypesError, kind_at, options_in, type_at_code, type_of};
-ghost use Rattle.column_keys.specs.Words.{types_of_codes};
+ghost use Rattle.std.specs.Prelude.{◌≡◌, ◌≢◌, IfErr, IfOk, None, OnOk, Some, length, map};
+ghost use Rattle.column_keys.specs.Words.{AreKinds, AreOptions, AreTypesError, HaveTypes, IsKindsError};
+ghost use Rattle.column_keys.specs.Words.{IsOptionsError, kind_at, options_in, type_of, types_of_codes};
 
 use crate::columns::options_of_byte;
 use crate::errors::KeysError;
@@ -20,41 +19,41 @@ pub(crate) struct ColumnTypes {
     pub(crate) dtypes: Vec<DType>,
     /// How each column is sorted.
     pub(crate) options: Vec<SortOptions>,
-    /// The kind of the column that is asked for.
-    pub(crate) kind: Kind,
+}
+
+/// The kind with this code, which is of one.
+pub(crate) fn known_kind(code: u8) -> Kind
+    requires { kind_at code ≢ None }
+    ensures { kind_at code ≡ Some result }
+{
+    match Kind::from_code(code) {
+        Some(kind) => kind,
+        None => unreachable!(),
+    }
 }
 
 /// The types of the columns of these kinds, by their codes, each with its byte of options.
 ///
-/// `WrongLength` exactly if there are not as many options as kinds, or no column of that number,
-/// before all else. Then `BadOptions` for the first byte above 3, and then `UnknownKind` for the
-/// first code of no kind. `OutOfMemory` may come in place of these.
+/// `WrongLength` exactly if there are not as many options as kinds, before all else. Then
+/// `BadOptions` for the first byte above 3, and then `UnknownKind` for the first code of no kind.
+/// `OutOfMemory` may come in place of these two.
 pub(crate) fn read_types(
     alloc: Global,
     kinds: &[u8],
     options: &[u8],
-    which: usize,
 ) -> Result<ColumnTypes, KeysError>
     ensures types { IfOk result
         (λ types. map type_of types.dtypes.items ≡ types_of_codes kinds.now) }
     ensures options { IfOk result (λ types. types.options.items ≡ map options_in options.now) }
-    ensures kind { IfOk result (λ types. kind_at (slice_index kinds.now which) ≡ Some types.kind) }
-    ensures sound { OnOk result (HasTypes kinds.now options.now which) }
-    ensures fault { IfErr result (IsTypesError kinds.now options.now which) }
+    ensures sound { OnOk result (HaveTypes kinds.now options.now) }
+    ensures fault { IfErr result (AreTypesError kinds.now options.now) }
 {
-    if options.len() != kinds.len() || which >= kinds.len() {
+    if options.len() != kinds.len() {
         return Err(KeysError::WrongLength);
     }
     let options = read_options(alloc, options)?;
     let dtypes = read_kinds(alloc, kinds)?;
-    let Some(kind) = Kind::from_code(kinds[which]) else {
-        unreachable!()
-    };
-    Ok(ColumnTypes {
-        dtypes,
-        options,
-        kind,
-    })
+    Ok(ColumnTypes { dtypes, options })
 }
 
 /// The options that bytes stand for.

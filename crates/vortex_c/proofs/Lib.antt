@@ -3,6 +3,7 @@ mod ColumnBounds
 mod ColumnEnds
 mod ColumnOrder
 mod FilterSteps
+mod KeyBackSteps
 mod KeySteps
 mod Lengths
 mod NestSteps

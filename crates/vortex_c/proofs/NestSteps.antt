@@ -282,6 +282,6 @@ words-nest n words named f short few h =
     record {
       types = record { fit = omega (arith, few, length-map named (λ (column : NamedKind). type_at (kind_at column.kind))); each = plain-kinds named };
       filter = nests f (encoding_depth n)
-      (filter-form (trees_of_kinds named) (plain-columns named) (omega (arith, few, length-map named tree_of_kind)) (omega (arith, short, tokens)) h.means)
-      (omega (arith, low.high, low.tokens, tokens, short));
+          (filter-form (trees_of_kinds named) (plain-columns named) (omega (arith, few, length-map named tree_of_kind)) (omega (arith, short, tokens)) h.means)
+          (omega (arith, low.high, low.tokens, tokens, short));
     }

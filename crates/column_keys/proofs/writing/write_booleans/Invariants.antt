@@ -1,12 +1,10 @@
--- The cells and the bits so far.
-use Rattle.column_keys.specs.Layout.{is_present, truth_in}
+-- The bits so far.
+use Rattle.std.proofs.Common.{map}
+use Rattle.vortex_value.specs.Values.Content.{content}
+use Rattle.column_keys.specs.Cells.{raws_in}
+use Rattle.column_keys.specs.Layout.{truth_in}
 use Rattle.column_keys.proofs.BitSteps.{AreBitsBefore}
-use Rattle.column_keys.proofs.CellColumns.{AreSomeBefore}
 use Rattle.column_keys.proofs.writing.write_booleans.Given as goal
 
 abbrev pub invariant-loop-row : goal.invariant-loop-row
-invariant-loop-row l = record {
-  cells : AreSomeBefore l.keys l.row;
-  bits : AreBitsBefore is_present l.keys l.row l.validity;
-  truths : AreBitsBefore truth_in l.keys l.row l.values;
-}
+invariant-loop-row l = AreBitsBefore truth_in (map content (raws_in l.rows l.fn.which)) l.row l.values

@@ -1,13 +1,9 @@
--- The cells, the bits and the integers so far.
-use Rattle.column_keys.specs.Layout.{is_present}
-use Rattle.column_keys.proofs.BitSteps.{AreBitsBefore}
-use Rattle.column_keys.proofs.CellColumns.{AreSomeBefore}
+-- The integers so far.
+use Rattle.std.proofs.Common.{map}
+use Rattle.vortex_value.specs.Values.Content.{content}
+use Rattle.column_keys.specs.Cells.{raws_in}
 use Rattle.column_keys.proofs.NumberSteps.{AreIntegersBefore}
 use Rattle.column_keys.proofs.writing.write_integers.Given as goal
 
 abbrev pub invariant-loop-row : goal.invariant-loop-row
-invariant-loop-row l = record {
-  cells : AreSomeBefore l.keys l.row;
-  bits : AreBitsBefore is_present l.keys l.row l.validity;
-  integers : AreIntegersBefore l.fn.kind l.keys l.row l.values;
-}
+invariant-loop-row l = AreIntegersBefore l.fn.kind (map content (raws_in l.rows l.fn.which)) l.row l.values

@@ -8,7 +8,7 @@ use Rattle.vortex_cells.specs.Cells.{Cell}
 use Rattle.vortex_filter.specs.FilterLiterals.{AreValid, FormulasSayLiterals, exactly_of, literals_of}
 use Rattle.vortex_filter.specs.Formula.{Formula, constant, comparison, null_test, membership, range, prefix_test, both, either, negation}
 use Rattle.filter_encoding.specs.Answers.{ReadsAs}
-use Rattle.filter_encoding.specs.Encoding.{CanBeWritten, HasEncoding, encoding, parts_of, prepared}
+use Rattle.filter_encoding.specs.Encoding.{CanBeWritten, HasEncoding, Prepared, encoding, parts_of, prepared}
 use Rattle.filter_encoding.specs.declared.error.FilterEncodingError.{FilterEncodingError}
 use Rattle.filter_encoding.specs.declared.error.FilterEncodingError.TheVariants.{NoEncoding, OutOfMemory}
 use Rattle.filter_encoding.specs.declared.prepared.PreparedFilter.{PreparedFilter}
