@@ -4,12 +4,12 @@
 #![tactic(auto)]
 
 mod cells;
-mod columns;
 pub mod laws;
+mod rows;
 mod scalars;
 mod types;
 
 pub use cells::{row_count, scalar_at};
-pub use columns::rows_of;
+pub use rows::rows_of;
 pub use scalars::{bool_scalar, byte_scalar, integer_scalar, text_scalar};
 pub use types::{dtype_of, dtype_of_rows, ptype_of};

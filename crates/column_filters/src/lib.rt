@@ -5,13 +5,13 @@
 #![tactic(auto)]
 
 mod bits;
-mod columns;
 mod errors;
 pub mod laws;
 mod masks;
+mod tables;
 mod zones;
 
-pub use columns::read_columns;
 pub use errors::{MaskError, ZoneError};
 pub use masks::{mask_of_columns, write_mask};
+pub use tables::read_columns;
 pub use zones::outcomes_of_zones;

@@ -7,8 +7,8 @@ ghost use Rattle.column_filters.specs.Words.{contents_of_rows, formula, is_match
 ghost use Rattle.column_filters.specs.Words.{type_of};
 
 use crate::bits::clear_bits;
-use crate::columns::read_columns;
 use crate::errors::MaskError;
+use crate::tables::read_columns;
 use arrow_columns::{Column, Rows, bitmap_length, put_bit};
 use column_cells::scalar_at;
 use std::alloc::Global;

@@ -11,7 +11,7 @@ use Rattle.arrow_columns.specs.declared.columns.Column.{Column}
 use Rattle.column_cells.specs.Contents.{HasTexts, contents_of_column, contents_of_rows}
 use Rattle.column_keys.specs.Tables.{AreReadFrom, AreSoundBefore, IsErrorAt, IsReadFrom, IsSound, IsTableError, options_in, options_of, table_of}
 use Rattle.arrow_columns.specs.Columns.{rows_in}
-use Rattle.column_keys.specs.declared.columns.KeyColumn.{KeyColumn}
+use Rattle.column_keys.specs.declared.key_columns.KeyColumn.{KeyColumn}
 use Rattle.column_keys.specs.declared.errors.TableError.{TableError}
 use Rattle.column_keys.specs.declared.errors.TableError.TheVariants.{BadOptions, OutOfMemory, Unreadable, WrongCount, WrongLength}
 

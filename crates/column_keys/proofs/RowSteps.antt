@@ -9,7 +9,7 @@ use Rattle.vortex_row.specs.declared.options.SortOptions.{SortOptions}
 use Rattle.column_cells.specs.Contents.{HasTexts, contents_of_rows}
 use Rattle.column_keys.specs.Keys.{column_length, key_of_row, keys_length}
 use Rattle.column_keys.specs.Tables.{HasRow, options_of, table_of}
-use Rattle.column_keys.specs.declared.columns.KeyColumn.{KeyColumn}
+use Rattle.column_keys.specs.declared.key_columns.KeyColumn.{KeyColumn}
 
 -- the key of the columns from a place on
 pub key-at : (i : ℕ) (columns : List KeyColumn) (row : ℕ) (column : KeyColumn) → i < length columns → column ≡ get_or columns i column

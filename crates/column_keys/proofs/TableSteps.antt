@@ -7,7 +7,7 @@ use Rattle.std.proofs.lemmas.Slice.{between_is}
 use Rattle.vortex_row.specs.Slots.{HasSlot, Writes}
 use Rattle.column_keys.specs.Keys.{AreRowKeys, key_of_row, keys_length}
 use Rattle.column_keys.specs.Tables.{HasRow, HaveRows, options_of, table_of}
-use Rattle.column_keys.specs.declared.columns.KeyColumn.{KeyColumn}
+use Rattle.column_keys.specs.declared.key_columns.KeyColumn.{KeyColumn}
 
 -- each of the rows is one
 

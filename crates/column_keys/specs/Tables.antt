@@ -9,7 +9,7 @@ use Rattle.arrow_columns.specs.declared.tested_rows.Rows.{Rows}
 use Rattle.vortex_value.specs.Values.Content.{Content}
 use Rattle.vortex_row.specs.declared.options.SortOptions.{SortOptions}
 use Rattle.column_cells.specs.Contents.{HasTexts, contents_of_column, contents_of_rows}
-use Rattle.column_keys.specs.declared.columns.KeyColumn.{KeyColumn}
+use Rattle.column_keys.specs.declared.key_columns.KeyColumn.{KeyColumn}
 use Rattle.column_keys.specs.declared.errors.TableError.{TableError}
 use Rattle.column_keys.specs.declared.errors.TableError.TheVariants.{BadOptions, OutOfMemory, Unreadable, WrongCount, WrongLength}
 

@@ -6,11 +6,11 @@
 
 mod buffers;
 mod cells;
-mod columns;
 mod counting;
 mod decoding;
 mod errors;
 mod items;
+mod key_columns;
 mod keys;
 pub mod laws;
 mod lengths;
@@ -21,7 +21,7 @@ mod values;
 mod writing;
 
 pub use buffers::ColumnBuffers;
-pub use columns::{KeyColumn, options_of_byte, read_columns};
 pub use decoding::columns_of_keys;
 pub use errors::{KeysError, TableError};
+pub use key_columns::{KeyColumn, options_of_byte, read_columns};
 pub use table::{row_keys_length, write_row_keys};

@@ -2,7 +2,7 @@
 
 ghost use Rattle.column_keys.specs.Words.{HasRow, HasSlot, Writes, key_of_row, options_of, table_of};
 
-use crate::columns::KeyColumn;
+use crate::key_columns::KeyColumn;
 use crate::values::value_at;
 use vortex_row::write_plain_key;
 

@@ -3,7 +3,7 @@
 ghost use Rattle.std.specs.Prelude.{◌≡◌, ◌+◌, ◌<◌, drop, length};
 ghost use Rattle.column_keys.specs.Words.{AreRowKeys, HaveRows, capped, keys_length, options_of, table_of};
 
-use crate::columns::KeyColumn;
+use crate::key_columns::KeyColumn;
 use crate::lengths::column_keys_length;
 use crate::rows::write_row;
 

@@ -4,8 +4,8 @@ ghost use Rattle.std.specs.Prelude.{◌≡◌, ◌≢◌, IfErr, IfOk, None, OnO
 ghost use Rattle.column_keys.specs.Words.{AreKinds, AreOptions, AreTypesError, HaveTypes, IsKindsError};
 ghost use Rattle.column_keys.specs.Words.{IsOptionsError, kind_at, options_in, type_of, types_of_codes};
 
-use crate::columns::options_of_byte;
 use crate::errors::KeysError;
+use crate::key_columns::options_of_byte;
 use arrow_columns::Kind;
 use column_cells::dtype_of;
 use std::alloc::Global;

@@ -6,7 +6,7 @@ use Rattle.filter_encoding.specs.Lists.{AreListed, AreSo, Fits, count_bytes, eac
 use Rattle.filter_encoding.specs.Strings.{HasRead, IsEncodingOf, IsStuck, Reads, Then}
 use Rattle.filter_encoding.specs.Steps.{Appends, Begins}
 use Rattle.filter_encoding.specs.declared.error.FilterEncodingError.{FilterEncodingError}
-use Rattle.filter_encoding.specs.declared.reader.Fault.{Fault}
+use Rattle.filter_encoding.specs.declared.reader.FilterDecodeError.{FilterDecodeError}
 use Rattle.filter_encoding.proofs.Stuck.{AreApart, GoesOn, encoding_of, stuck_later, stuck_within, then_begins}
 use Rattle.filter_encoding.proofs.WriteSteps.{then_written}
 
@@ -195,7 +195,7 @@ pub loop_end : {X A : Type 0} (f : X → List ℕ) (Is : X → Type 0) (view : A
 loop_end f Is view i n items old now a b h = let same : i ≡ n = omega arith in subst (λ k. HasRead (each_bytes f) (AreSo k Is) (map view items) old now) same h
 
 -- the items after their number
-pub list_answer : {X A : Type 0} (counts : AreApart count_bytes Fits) (f : X → List ℕ) (Is : X → Type 0) (view : A → X) (n : ℕ) (r : Result (Vec A Global) Fault) (old mid now : List ℕ) → HasRead count_bytes Fits n old mid
+pub list_answer : {X A : Type 0} (counts : AreApart count_bytes Fits) (f : X → List ℕ) (Is : X → Type 0) (view : A → X) (n : ℕ) (r : Result (Vec A Global) FilterDecodeError) (old mid now : List ℕ) → HasRead count_bytes Fits n old mid
     → Reads (each_bytes f) (AreSo n Is) (λ v. map view v.items) r mid now → Reads (listed f) (AreListed Is) (λ v. map view v.items) r old now
 list_answer counts f Is view n (Ok v) old mid now h g = list_read f Is n (map view v.items) old mid now h g
 list_answer counts f Is view n (Err e) old mid now h g = λ bad. items_stuck counts f Is n old mid now h (g bad)

@@ -25,7 +25,7 @@ use Rattle.statistics_bytes.proofs.KeyBounds.{key-ascending}
 use Rattle.filter_encoding.specs.Encoding.{IsLiteral, IsPlain, literal_bytes, type_byte, type_bytes}
 use Rattle.filter_encoding.specs.Steps.{IsKeyOfType, ReadsKey}
 use Rattle.filter_encoding.specs.Strings.{BeginAlike, HasRead, IsEncodingOf, IsStuck, Reads}
-use Rattle.filter_encoding.specs.declared.reader.Fault.{Fault}
+use Rattle.filter_encoding.specs.declared.reader.FilterDecodeError.{FilterDecodeError}
 use Rattle.filter_encoding.proofs.Stuck.{AreApart, GoesOn, encoding_of, stuck_later, stuck_within}
 use Rattle.filter_encoding.proofs.TypeLaws.{plain_ordered, plain_unions, types_apart}
 
@@ -190,11 +190,11 @@ key_came o t bytes x n e h =
     (omega arith, h.begins.value, is ∙ ap (λ xs. key (scalar_content x) ++ xs) (sym rest))
 
 -- the type, and then a value of it
-pub literal_answer : (t : TypeTree) (r : Result Scalar Fault) (old mid now : List ℕ) → HasRead type_bytes IsPlain t old mid → ReadsKey t r mid now → Reads literal_bytes IsLiteral cell_of r old now
+pub literal_answer : (t : TypeTree) (r : Result Scalar FilterDecodeError) (old mid now : List ℕ) → HasRead type_bytes IsPlain t old mid → ReadsKey t r mid now → Reads literal_bytes IsLiteral cell_of r old now
 literal_answer t (Ok x) old mid now h g = literal_read t x (cell_of x) old mid now refl refl h g.0 g.1 g.2
 literal_answer t (Err e) old mid now h g = λ bad. key_stuck t old mid now h (g bad)
 
 -- a value that was read is valid for its type
-pub key_valid : (t : TypeTree) (r : Result Scalar Fault) (old now : List ℕ) → ReadsKey t r old now → IfOk r IsValid
+pub key_valid : (t : TypeTree) (r : Result Scalar FilterDecodeError) (old now : List ℕ) → ReadsKey t r old now → IfOk r IsValid
 key_valid t (Ok x) old now h = subst (λ (s : TypeTree). Valid s (scalar_raw x)) (sym h.0) h.1.valid
 key_valid t (Err e) old now h = tt

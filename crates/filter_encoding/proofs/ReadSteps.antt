@@ -12,8 +12,8 @@ use Rattle.filter_encoding.specs.Lists.{AreListed, Fits, count_bytes, listed}
 use Rattle.filter_encoding.specs.Steps.{IsNode, IsNodeEncoding, MayBegin, ReadsBehind, ReadsBoth, head_byte}
 use Rattle.filter_encoding.specs.Strings.{HasRead, IsEncodingOf, IsStuck, Reads, Then}
 use Rattle.filter_encoding.specs.declared.heads.Head.{Head}
-use Rattle.filter_encoding.specs.declared.reader.Fault.{Fault}
-use Rattle.filter_encoding.specs.declared.reader.Fault.TheVariants.{Bad}
+use Rattle.filter_encoding.specs.declared.reader.FilterDecodeError.{FilterDecodeError}
+use Rattle.filter_encoding.specs.declared.reader.FilterDecodeError.TheVariants.{Bad}
 use Rattle.filter_encoding.proofs.NodeLaws.{Literal, Literals, Place, both_goes_on, comparison_goes_on, either_goes_on, first_stuck, membership_goes_on, negation_goes_on, nodes_apart, null_test_goes_on, prefix_goes_on, range_goes_on, second_stuck, some_literal, some_literal_pair, some_literals}
 use Rattle.filter_encoding.proofs.HeadLaws.{some_node}
 use Rattle.filter_encoding.proofs.LiteralLaws.{literals_apart}
@@ -23,7 +23,7 @@ use Rattle.filter_encoding.proofs.Stuck.{alone_of, encoding_of, stuck_later, stu
 -- ---- refusals
 
 -- a refusal that is passed on
-pub passed_on : {X A : Type 0} (bytes_of : X → List ℕ) (Is : X → Type 0) (view : A → X) (r : Result A Fault) (e : Fault) (old now : List ℕ) → IsErr r × IsErrAnd r (λ f. f ≡ e) → (e ≡ Bad → IsStuck (IsEncodingOf bytes_of Is) old now)
+pub passed_on : {X A : Type 0} (bytes_of : X → List ℕ) (Is : X → Type 0) (view : A → X) (r : Result A FilterDecodeError) (e : FilterDecodeError) (old now : List ℕ) → IsErr r × IsErrAnd r (λ f. f ≡ e) → (e ≡ Bad → IsStuck (IsEncodingOf bytes_of Is) old now)
     → Reads bytes_of Is view r old now
 passed_on bytes_of Is view (Ok x) e old now h g = absurd (true≢false (sym h.0))
 passed_on bytes_of Is view (Err f) e old now h g = λ bad. g (sym h.1 ∙ bad)
@@ -143,12 +143,12 @@ right_stuck d f old mid now h stuck =
     stuck_later (node_bytes f) (Parts d) (IsNodeEncoding d) old mid now (then_goes_on (IsNodeEncoding d) (IsNodeEncoding d) (node_bytes f) (alone_of node_bytes (IsNode d) (nodes_apart d)) (encoding_of node_bytes (IsNode d) f h.is_one)) h.is stuck
 
 -- a refusal of two parts that is passed on
-pub parts_passed_on : (d : ℕ) (r : Result (Box Filter Global × Box Filter Global) Fault) (e : Fault) (old now : List ℕ) → IsErr r × IsErrAnd r (λ f. f ≡ e) → (e ≡ Bad → IsStuck (Parts d) old now) → ReadsBoth d r old now
+pub parts_passed_on : (d : ℕ) (r : Result (Box Filter Global × Box Filter Global) FilterDecodeError) (e : FilterDecodeError) (old now : List ℕ) → IsErr r × IsErrAnd r (λ f. f ≡ e) → (e ≡ Bad → IsStuck (Parts d) old now) → ReadsBoth d r old now
 parts_passed_on d (Ok x) e old now h g = absurd (true≢false (sym h.0))
 parts_passed_on d (Err f) e old now h g = λ bad. g (sym h.1 ∙ bad)
 
 -- what was read behind the first byte
-pub behind : (n head : ℕ) (r : Result Filter Fault) (old mid now : List ℕ) → old ≡ head ∷ mid → ReadsBehind head n r mid now → Reads node_bytes (IsNode n) formula r old now
+pub behind : (n head : ℕ) (r : Result Filter FilterDecodeError) (old mid now : List ℕ) → old ≡ head ∷ mid → ReadsBehind head n r mid now → Reads node_bytes (IsNode n) formula r old now
 behind n head r old mid now e h = subst (λ xs. Reads node_bytes (IsNode n) formula r xs now) (sym e) h
 
 -- the first byte was that of this kind

@@ -21,8 +21,8 @@ use Rattle.filter_encoding.specs.declared.heads.Head.{Head}
 use Rattle.filter_encoding.specs.declared.heads.Head.TheVariants.{Constant, Compare, IsNull, In, Between, StartsWith, And, Or, Not}
 use Rattle.filter_encoding.specs.declared.literals.Found.{Found}
 use Rattle.filter_encoding.specs.declared.literals.Found.TheVariants.{NoMemory, Value, Wrong}
-use Rattle.filter_encoding.specs.declared.reader.Fault.{Fault}
-use Rattle.filter_encoding.specs.declared.reader.Fault.TheVariants.{Bad}
+use Rattle.filter_encoding.specs.declared.reader.FilterDecodeError.{FilterDecodeError}
+use Rattle.filter_encoding.specs.declared.reader.FilterDecodeError.TheVariants.{Bad}
 
 -- ---- types
 
@@ -79,7 +79,7 @@ abbrev pub IsNodeEncoding : ℕ → List ℕ → Type 0
 IsNodeEncoding n = IsEncodingOf node_bytes (IsNode n)
 
 -- two such filters are read, or memory is refused, or the bytes go on as no two
-abbrev pub ReadsBoth : ℕ → Result (Box Filter Global × Box Filter Global) Fault → List ℕ → List ℕ → Type 0
+abbrev pub ReadsBoth : ℕ → Result (Box Filter Global × Box Filter Global) FilterDecodeError → List ℕ → List ℕ → Type 0
 ReadsBoth n r old now =
     MatchResult r
     (λ p. (IsNode n (formula p.0.value) × IsNode n (formula p.1.value)) × (old ≡ node_bytes (formula p.0.value) ++ (node_bytes (formula p.1.value) ++ now)))
@@ -98,12 +98,12 @@ IsFound t bytes (Wrong place) = (place ≤ length bytes) × IsStuck (IsKeyOfType
 IsFound t bytes NoMemory = Unit {0}
 
 -- a value of the type is read by its key, or memory is refused, or the bytes go on as no such key
-abbrev pub ReadsKey : TypeTree → Result Scalar Fault → List ℕ → List ℕ → Type 0
+abbrev pub ReadsKey : TypeTree → Result Scalar FilterDecodeError → List ℕ → List ℕ → Type 0
 ReadsKey t r old now =
     MatchResult r (λ x. (scalar_type x ≡ t) × IsValueOf t (scalar_raw x) × (old ≡ key (scalar_content x) ++ now)) (λ e. e ≡ Bad → IsStuck (IsKeyOfType t) old now)
 
 -- a filter with this first byte, which was taken, is read, or memory is refused, or the bytes go on as none
-abbrev pub ReadsBehind : ℕ → ℕ → Result Filter Fault → List ℕ → List ℕ → Type 0
+abbrev pub ReadsBehind : ℕ → ℕ → Result Filter FilterDecodeError → List ℕ → List ℕ → Type 0
 ReadsBehind head n r old now = Reads node_bytes (IsNode n) formula r (head ∷ old) now
 
 -- ---- writing

@@ -1,7 +1,7 @@
 -- Strings of bytes that come from the front of others, and where bytes go on as none of them.
 use Rattle.std.specs.Prelude.{◌≡◌, ℕ, List, [], ◌∷◌, ◌++◌, MatchResult, Result}
-use Rattle.filter_encoding.specs.declared.reader.Fault.{Fault}
-use Rattle.filter_encoding.specs.declared.reader.Fault.TheVariants.{Bad}
+use Rattle.filter_encoding.specs.declared.reader.FilterDecodeError.{FilterDecodeError}
+use Rattle.filter_encoding.specs.declared.reader.FilterDecodeError.TheVariants.{Bad}
 use Rattle.filter_encoding.specs.declared.reader.Reader.{Reader}
 
 -- what is left to be read
@@ -35,7 +35,7 @@ pub record IsStuck (Is : List ℕ → Type 0) (old now : List ℕ) : Type 0 wher
   pub none : (s zs rest : List ℕ) → Is s → BeginAlike now zs → ¬ (done ++ zs ≡ s ++ rest)
 
 -- one of this kind is read, or memory is refused, or the bytes go on as those of none
-abbrev pub Reads : {X A : Type 0} → (X → List ℕ) → (X → Type 0) → (A → X) → Result A Fault → List ℕ → List ℕ → Type 0
+abbrev pub Reads : {X A : Type 0} → (X → List ℕ) → (X → Type 0) → (A → X) → Result A FilterDecodeError → List ℕ → List ℕ → Type 0
 Reads bytes_of Is view r old now = MatchResult r (λ x. HasRead bytes_of Is (view x) old now) (λ e. e ≡ Bad → IsStuck (IsEncodingOf bytes_of Is) old now)
 
 -- one string and then another

@@ -4,7 +4,7 @@ ghost use Rattle.std.specs.Prelude.{◌≡◌, ◌≢◌, ◌∷◌, ℕ, List, 
 ghost use Rattle.filter_encoding.specs.declared.heads.Head.{Head};
 ghost use Rattle.filter_encoding.specs.Words.{IsNodeEncoding, IsStuck, MayBegin, head_byte, left, operator_byte, truth_byte};
 
-use crate::reader::{Fault, Reader};
+use crate::reader::{FilterDecodeError, Reader};
 use vortex_filter::{CompareOperator, Truth};
 
 /// A kind of filter.
@@ -103,21 +103,21 @@ impl Head {
 }
 
 /// The kind of the next filter, in which at most so many connectives nest.
-pub(crate) fn read_head(depth: usize, reader: &mut Reader<'_>) -> Result<Head, Fault>
+pub(crate) fn read_head(depth: usize, reader: &mut Reader<'_>) -> Result<Head, FilterDecodeError>
     ensures { MatchResult result
         (λ head. (left reader.old ≡ head_byte head ∷ left reader.new) × MayBegin depth head)
         (λ e. IsStuck (IsNodeEncoding depth) (left reader.old) (left reader.new)) }
 {
     let Some(byte) = reader.first() else {
-        return Err(Fault::Bad);
+        return Err(FilterDecodeError::Bad);
     };
     let Some(head) = Head::from_byte(byte) else {
-        return Err(Fault::Bad);
+        return Err(FilterDecodeError::Bad);
     };
     if head.is_within(depth) {
         reader.advance(1);
         Ok(head)
     } else {
-        Err(Fault::Bad)
+        Err(FilterDecodeError::Bad)
     }
 }

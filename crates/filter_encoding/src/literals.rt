@@ -9,7 +9,7 @@ ghost use Rattle.filter_encoding.specs.Words.{literal_bytes, scalar_content, sca
 
 use crate::error::FilterEncodingError;
 use crate::places::{append_place, read_place};
-use crate::reader::{Fault, Reader};
+use crate::reader::{FilterDecodeError, Reader};
 use crate::types::{append_type, read_type};
 use std::alloc::Global;
 use vortex_dtype::DType;
@@ -47,7 +47,11 @@ fn find_value(alloc: Global, dtype: &DType, bytes: &[u8]) -> Found
 }
 
 /// The next value of the type, by its key.
-fn read_value(alloc: Global, dtype: &DType, reader: &mut Reader<'_>) -> Result<Scalar, Fault>
+fn read_value(
+    alloc: Global,
+    dtype: &DType,
+    reader: &mut Reader<'_>,
+) -> Result<Scalar, FilterDecodeError>
     requires { IsPlain (type_of dtype.now) }
     ensures { ReadsKey (type_of dtype.now) result (left reader.old) (left reader.new) }
 {
@@ -58,14 +62,17 @@ fn read_value(alloc: Global, dtype: &DType, reader: &mut Reader<'_>) -> Result<S
         }
         Found::Wrong(place) => {
             reader.advance(place);
-            Err(Fault::Bad)
+            Err(FilterDecodeError::Bad)
         }
-        Found::NoMemory => Err(Fault::NoMemory),
+        Found::NoMemory => Err(FilterDecodeError::NoMemory),
     }
 }
 
 /// The next literal.
-pub(crate) fn read_literal(alloc: Global, reader: &mut Reader<'_>) -> Result<Scalar, Fault>
+pub(crate) fn read_literal(
+    alloc: Global,
+    reader: &mut Reader<'_>,
+) -> Result<Scalar, FilterDecodeError>
     ensures read { Reads literal_bytes IsLiteral cell_of result (left reader.old) (left reader.new) }
     ensures valid { IfOk result IsValid }
 {
@@ -74,7 +81,11 @@ pub(crate) fn read_literal(alloc: Global, reader: &mut Reader<'_>) -> Result<Sca
 }
 
 /// So many literals.
-fn read_so_many(alloc: Global, count: usize, reader: &mut Reader<'_>) -> Result<Vec<Scalar>, Fault>
+fn read_so_many(
+    alloc: Global,
+    count: usize,
+    reader: &mut Reader<'_>,
+) -> Result<Vec<Scalar>, FilterDecodeError>
     ensures read { Reads (each_bytes literal_bytes) (AreSo count IsLiteral)
         (λ v. map cell_of v.items) result (left reader.old) (left reader.new) }
     ensures valid { IfOk result (λ v. AreValid v.items) }
@@ -88,7 +99,10 @@ fn read_so_many(alloc: Global, count: usize, reader: &mut Reader<'_>) -> Result<
 }
 
 /// The next literals: how many there are, and each.
-pub(crate) fn read_literals(alloc: Global, reader: &mut Reader<'_>) -> Result<Vec<Scalar>, Fault>
+pub(crate) fn read_literals(
+    alloc: Global,
+    reader: &mut Reader<'_>,
+) -> Result<Vec<Scalar>, FilterDecodeError>
     ensures read { Reads (listed literal_bytes) (AreListed IsLiteral)
         (λ v. map cell_of v.items) result (left reader.old) (left reader.new) }
     ensures valid { IfOk result (λ v. AreValid v.items) }

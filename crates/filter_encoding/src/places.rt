@@ -4,7 +4,7 @@ ghost use Rattle.std.specs.Prelude.{◌≡◌, ◌++◌, ◌<◌, ◌≤◌, Mat
 ghost use Rattle.filter_encoding.specs.Words.{AreBytes, Fits, Reads, Writes, count_bytes, left};
 
 use crate::error::FilterEncodingError;
-use crate::reader::{Fault, Reader};
+use crate::reader::{FilterDecodeError, Reader};
 use crate::writing::append_all;
 
 /// Does nothing: its contract says that they are bytes.
@@ -30,7 +30,7 @@ fn number_in(bytes: &[u8]) -> Option<u64>
 }
 
 /// The next count or place.
-pub(crate) fn read_place(reader: &mut Reader<'_>) -> Result<usize, Fault>
+pub(crate) fn read_place(reader: &mut Reader<'_>) -> Result<usize, FilterDecodeError>
     ensures { Reads count_bytes Fits (λ n. n) result (left reader.old) (left reader.new) }
 {
     are_bytes(reader.rest);
@@ -41,7 +41,7 @@ pub(crate) fn read_place(reader: &mut Reader<'_>) -> Result<usize, Fault>
         }
         None => {
             reader.rest = &[];
-            Err(Fault::Bad)
+            Err(FilterDecodeError::Bad)
         }
     }
 }

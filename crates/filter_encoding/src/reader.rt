@@ -6,30 +6,30 @@ use std::alloc::{AllocError, AllocFailed};
 
 /// Why nothing was read.
 #[derive(Clone, Copy)]
-pub(crate) enum Fault {
+pub(crate) enum FilterDecodeError {
     /// An allocation was refused.
     NoMemory,
     /// The next byte, or the end, comes next in no encoding.
     Bad,
 }
 
-impl From<AllocError> for Fault {
-    ghost use Rattle.filter_encoding.specs.declared.reader.Fault.TheVariants.{NoMemory};
+impl From<AllocError> for FilterDecodeError {
+    ghost use Rattle.filter_encoding.specs.declared.reader.FilterDecodeError.TheVariants.{NoMemory};
 
     ghost from_gives = { λ _ e. e ≡ NoMemory };
 
-    fn from(_error: AllocError) -> Fault {
-        Fault::NoMemory
+    fn from(_error: AllocError) -> FilterDecodeError {
+        FilterDecodeError::NoMemory
     }
 }
 
-impl<T: Drop> From<AllocFailed<T>> for Fault {
-    ghost use Rattle.filter_encoding.specs.declared.reader.Fault.TheVariants.{NoMemory};
+impl<T: Drop> From<AllocFailed<T>> for FilterDecodeError {
+    ghost use Rattle.filter_encoding.specs.declared.reader.FilterDecodeError.TheVariants.{NoMemory};
 
     ghost from_gives = { λ _ e. e ≡ NoMemory };
 
-    fn from(_error: AllocFailed<T>) -> Fault {
-        Fault::NoMemory
+    fn from(_error: AllocFailed<T>) -> FilterDecodeError {
+        FilterDecodeError::NoMemory
     }
 }
 

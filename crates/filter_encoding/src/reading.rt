@@ -8,7 +8,7 @@ use crate::heads::{Head, read_head};
 use crate::literals::{read_literal, read_literals};
 use crate::places::read_place;
 use crate::prepared::PreparedFilter;
-use crate::reader::{Fault, Reader};
+use crate::reader::{FilterDecodeError, Reader};
 use crate::types::read_types;
 use crate::writing::VERSION;
 use std::alloc::Global;
@@ -38,8 +38,8 @@ pub fn read_filter(
     let taken = bytes.len().saturating_sub(reader.rest.len());
     match answer {
         Ok(prepared) => whole_or_bad(prepared, taken, bytes.len()),
-        Err(Fault::NoMemory) => Err(FilterEncodingError::OutOfMemory),
-        Err(Fault::Bad) => Err(FilterEncodingError::BadBytes { offset: taken }),
+        Err(FilterDecodeError::NoMemory) => Err(FilterEncodingError::OutOfMemory),
+        Err(FilterDecodeError::Bad) => Err(FilterEncodingError::BadBytes { offset: taken }),
     }
 }
 
@@ -65,7 +65,7 @@ fn read_encoding(
     alloc: Global,
     depth: usize,
     reader: &mut Reader<'_>,
-) -> Result<PreparedFilter, Fault>
+) -> Result<PreparedFilter, FilterDecodeError>
     ensures read { Reads encoding (HasEncoding depth) prepared result (left reader.old) (left reader.new) }
     ensures valid { IfOk result (λ p. AreValid (literals_of p.filter)) }
 {
@@ -81,7 +81,7 @@ fn read_encoding(
 }
 
 /// Takes the version.
-fn read_version(reader: &mut Reader<'_>) -> Result<(), Fault>
+fn read_version(reader: &mut Reader<'_>) -> Result<(), FilterDecodeError>
     ensures { MatchResult result
         (λ _. left reader.old ≡ 1 ∷ left reader.new)
         (λ e. (left reader.new ≡ left reader.old)
@@ -90,14 +90,18 @@ fn read_version(reader: &mut Reader<'_>) -> Result<(), Fault>
     if reader.takes(VERSION) {
         Ok(())
     } else {
-        Err(Fault::Bad)
+        Err(FilterDecodeError::Bad)
     }
 }
 
 /// The next filter, in which at most so many connectives nest.
 #[cycle(filters)]
 #[tactic(auto, using(vortex_filter::proofs::LiteralSteps::valid))]
-fn read_node(alloc: Global, depth: usize, reader: &mut Reader<'_>) -> Result<Filter, Fault>
+fn read_node(
+    alloc: Global,
+    depth: usize,
+    reader: &mut Reader<'_>,
+) -> Result<Filter, FilterDecodeError>
     ensures read { Reads node_bytes (IsNode depth) formula
         result (left reader.old) (left reader.new) }
     ensures valid { IfOk result (λ f. AreValid (literals_of f)) }
@@ -128,7 +132,11 @@ fn read_node(alloc: Global, depth: usize, reader: &mut Reader<'_>) -> Result<Fil
 /// The next filter, in a box.
 #[cycle(filters)]
 #[tactic(auto, using(vortex_filter::proofs::LiteralSteps::valid))]
-fn read_part(alloc: Global, depth: usize, reader: &mut Reader<'_>) -> Result<Box<Filter>, Fault>
+fn read_part(
+    alloc: Global,
+    depth: usize,
+    reader: &mut Reader<'_>,
+) -> Result<Box<Filter>, FilterDecodeError>
     ensures read { Reads node_bytes (IsNode depth) (λ part. formula part.value)
         result (left reader.old) (left reader.new) }
     ensures valid { IfOk result (λ part. AreValid (literals_of part.value)) }
@@ -144,7 +152,7 @@ fn read_parts(
     alloc: Global,
     depth: usize,
     reader: &mut Reader<'_>,
-) -> Result<(Box<Filter>, Box<Filter>), Fault>
+) -> Result<(Box<Filter>, Box<Filter>), FilterDecodeError>
     ensures read { ReadsBoth depth result (left reader.old) (left reader.new) }
     ensures valid { IfOk result (λ parts. AreValid (literals_of parts.0.value)
         × AreValid (literals_of parts.1.value)) }
@@ -167,7 +175,7 @@ fn read_comparison(
     alloc: Global,
     operator: CompareOperator,
     reader: &mut Reader<'_>,
-) -> Result<Filter, Fault>
+) -> Result<Filter, FilterDecodeError>
     ensures read { (n : ℕ) → ReadsBehind (operator_byte operator) n
         result (left reader.old) (left reader.new) }
     ensures valid { IfOk result (λ f. AreValid (literals_of f)) }
@@ -183,7 +191,7 @@ fn read_comparison(
 
 /// A test for null, after its first byte.
 #[tactic(auto, using(vortex_filter::proofs::LiteralSteps::valid))]
-fn read_null_test(reader: &mut Reader<'_>) -> Result<Filter, Fault>
+fn read_null_test(reader: &mut Reader<'_>) -> Result<Filter, FilterDecodeError>
     ensures read { (n : ℕ) → ReadsBehind 9 n result (left reader.old) (left reader.new) }
     ensures valid { IfOk result (λ f. AreValid (literals_of f)) }
 {
@@ -193,7 +201,7 @@ fn read_null_test(reader: &mut Reader<'_>) -> Result<Filter, Fault>
 
 /// Whether a cell is equal to one of several literals, after its first byte.
 #[tactic(auto, using(vortex_filter::proofs::LiteralSteps::valid))]
-fn read_membership(alloc: Global, reader: &mut Reader<'_>) -> Result<Filter, Fault>
+fn read_membership(alloc: Global, reader: &mut Reader<'_>) -> Result<Filter, FilterDecodeError>
     ensures read { (n : ℕ) → ReadsBehind 10 n result (left reader.old) (left reader.new) }
     ensures valid { IfOk result (λ f. AreValid (literals_of f)) }
 {
@@ -204,7 +212,7 @@ fn read_membership(alloc: Global, reader: &mut Reader<'_>) -> Result<Filter, Fau
 
 /// Whether a cell is from one literal up to another, after its first byte.
 #[tactic(auto, using(vortex_filter::proofs::LiteralSteps::valid))]
-fn read_range(alloc: Global, reader: &mut Reader<'_>) -> Result<Filter, Fault>
+fn read_range(alloc: Global, reader: &mut Reader<'_>) -> Result<Filter, FilterDecodeError>
     ensures read { (n : ℕ) → ReadsBehind 11 n result (left reader.old) (left reader.new) }
     ensures valid { IfOk result (λ f. AreValid (literals_of f)) }
 {
@@ -225,7 +233,7 @@ fn read_range(alloc: Global, reader: &mut Reader<'_>) -> Result<Filter, Fault>
 
 /// Whether a cell begins with a literal, after its first byte.
 #[tactic(auto, using(vortex_filter::proofs::LiteralSteps::valid))]
-fn read_prefix(alloc: Global, reader: &mut Reader<'_>) -> Result<Filter, Fault>
+fn read_prefix(alloc: Global, reader: &mut Reader<'_>) -> Result<Filter, FilterDecodeError>
     ensures read { (n : ℕ) → ReadsBehind 12 n result (left reader.old) (left reader.new) }
     ensures valid { IfOk result (λ f. AreValid (literals_of f)) }
 {

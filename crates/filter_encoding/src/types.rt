@@ -6,7 +6,7 @@ ghost use Rattle.filter_encoding.specs.Words.{AreListed, AreSo, IsPlain, Reads, 
 
 use crate::error::FilterEncodingError;
 use crate::places::{append_place, read_place};
-use crate::reader::{Fault, Reader};
+use crate::reader::{FilterDecodeError, Reader};
 use crate::writing::append_byte;
 use std::alloc::Global;
 use vortex_dtype::{DType, Nullability, PType};
@@ -99,21 +99,25 @@ fn type_from(byte: u8) -> Option<DType>
 }
 
 /// The next type.
-pub(crate) fn read_type(reader: &mut Reader<'_>) -> Result<DType, Fault>
+pub(crate) fn read_type(reader: &mut Reader<'_>) -> Result<DType, FilterDecodeError>
     ensures { Reads type_bytes IsPlain type_of result (left reader.old) (left reader.new) }
 {
     let Some(byte) = reader.first() else {
-        return Err(Fault::Bad);
+        return Err(FilterDecodeError::Bad);
     };
     let Some(dtype) = type_from(byte) else {
-        return Err(Fault::Bad);
+        return Err(FilterDecodeError::Bad);
     };
     reader.advance(1);
     Ok(dtype)
 }
 
 /// So many types.
-fn read_so_many(alloc: Global, count: usize, reader: &mut Reader<'_>) -> Result<Vec<DType>, Fault>
+fn read_so_many(
+    alloc: Global,
+    count: usize,
+    reader: &mut Reader<'_>,
+) -> Result<Vec<DType>, FilterDecodeError>
     ensures { Reads (each_bytes type_bytes) (AreSo count IsPlain) (λ v. map type_of v.items)
         result (left reader.old) (left reader.new) }
 {
@@ -126,7 +130,10 @@ fn read_so_many(alloc: Global, count: usize, reader: &mut Reader<'_>) -> Result<
 }
 
 /// The next types: how many there are, and each.
-pub(crate) fn read_types(alloc: Global, reader: &mut Reader<'_>) -> Result<Vec<DType>, Fault>
+pub(crate) fn read_types(
+    alloc: Global,
+    reader: &mut Reader<'_>,
+) -> Result<Vec<DType>, FilterDecodeError>
     ensures { Reads (listed type_bytes) (AreListed IsPlain) (λ v. map type_of v.items)
         result (left reader.old) (left reader.new) }
 {

@@ -12,7 +12,7 @@ use Rattle.std.proofs.lemmas.Bool.Decides.{nat_tests}
 use Rattle.std.proofs.lemmas.Option.{slice_get-map}
 use Rattle.std.proofs.lemmas.Str.Parse.{IsNumeralModel, numerals_by_value, tells_all_ascii_digits, parse_plain}
 use Rattle.filter_sql.specs.declared.column.Column.{Column}
-use Rattle.filter_sql.specs.Columns.{ColumnTree, column_tree, column_trees, digits_number, numbered_place, named_place}
+use Rattle.filter_sql.specs.ColumnNames.{ColumnTree, column_tree, column_trees, digits_number, numbered_place, named_place}
 
 -- the position among what a function gives
 position_from-map : {A B : Type 0} (p : B → Bool) (f : A → B) (n : ℕ) (xs : List A) → position_from p n (map f xs) ≡ position_from (λ x. p (f x)) n xs

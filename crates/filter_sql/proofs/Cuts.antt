@@ -13,7 +13,7 @@ use Rattle.std.proofs.lemmas.Str.{IsCharBoundary-after_ascii, IsUtf8-drop}
 use Rattle.std.proofs.lemmas.Str.Parse.{IsNumeralModel, numerals_by_value, tells_by_index, parse_digits}
 use Rattle.filter_sql.specs.Tokens.{is_word_byte, is_word_start}
 use Rattle.filter_sql.specs.Lexing.{integer_at, signed_at, unquoted_at, with_byte}
-use Rattle.filter_sql.specs.declared.lex.Fault.TheVariants.{NumberTooLong}
+use Rattle.filter_sql.specs.declared.lex.LexError.TheVariants.{NumberTooLong}
 
 -- a text may be cut behind an ASCII byte
 pub cut_behind : (text : List ℕ) (count : ℕ) → IsUtf8 text → 0 < count → count ≤ length text → get_or text (count - 1) 0 < 128 → IsCharBoundary text count

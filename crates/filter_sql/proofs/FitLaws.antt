@@ -12,7 +12,7 @@ use Rattle.vortex_cells.specs.Cells.{Cell}
 use Rattle.filter_sql.specs.declared.print.Level.{Level}
 use Rattle.vortex_filter.specs.Checking.{Test, tests, HoldsStrings, IsOfType, AllFit, FitsColumns}
 use Rattle.vortex_filter.specs.CheckSteps.{holds_strings}
-use Rattle.filter_sql.specs.Columns.{ColumnTree, column_named, column_there, typed_place, or_numbered, named_place}
+use Rattle.filter_sql.specs.ColumnNames.{ColumnTree, column_named, column_there, typed_place, or_numbered, named_place}
 use Rattle.vortex_filter.specs.Formula.{Formula, negation, null_test, prefix_test}
 use Rattle.filter_sql.specs.Grammar.{IsPredicate, says_true, says_false, says_null, on_column, prefix_call, IsFilter, predicate, group, not_filter, one_operand, and_filter, one_conjunction, or_filter}
 use Rattle.vortex_filter.specs.Literals.{LiteralTree, null_literal, truth_literal, number_literal, text_literal, bytes_literal, bytes_cell, bytes_in, null_cell, number_cell, number_in, number_position, position_of, text_cell, text_in, truth_cell, truth_in}

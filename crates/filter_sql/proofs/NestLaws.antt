@@ -13,7 +13,7 @@ use Rattle.vortex_filter.specs.Positions.{PositionTree, exactly, lacking, cells_
 use Rattle.filter_sql.specs.declared.print.Level.{Level}
 use Rattle.filter_sql.specs.declared.print.Level.TheVariants as levels
 use Rattle.filter_sql.specs.declared.token.Keyword.TheVariants as keywords
-use Rattle.filter_sql.specs.Columns.{ColumnTree}
+use Rattle.filter_sql.specs.ColumnNames.{ColumnTree}
 use Rattle.filter_sql.specs.Grammar.{IsCondition, IsFilter, IsPredicate, IsTest, and_filter, bare_test, between_literals, compares, group, in_literals, in_nothing, is_not_null, is_null, like_escaped, like_pattern, not_filter, not_test, on_column, one_conjunction, one_operand, or_filter, predicate, prefix_call, says_false, says_null, says_true}
 use Rattle.filter_sql.specs.Literals.{Condition, begun, formula_in, missing, positions_of}
 use Rattle.filter_sql.specs.Tokens.{TokenTree, closing, keyword_token}

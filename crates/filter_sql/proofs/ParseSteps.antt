@@ -6,14 +6,14 @@ use Rattle.filter_sql.specs.declared.error.ParseError.{ParseError}
 use Rattle.filter_sql.specs.declared.error.ParseError.TheVariants as errors
 use Rattle.filter_sql.specs.declared.error.Expected.TheVariants as expects
 use Rattle.filter_sql.specs.declared.lex.Ending.{Ending}
-use Rattle.filter_sql.specs.declared.lex.Fault.{Fault as Unread}
-use Rattle.filter_sql.specs.declared.lex.Fault.TheVariants as unreads
-use Rattle.filter_sql.specs.declared.parsing.fault.Cause.{Cause}
-use Rattle.filter_sql.specs.declared.parsing.fault.Cause.TheVariants as causes
-use Rattle.filter_sql.specs.declared.parsing.fault.Fault.{Fault}
-use Rattle.filter_sql.specs.declared.parsing.fault.Fault.TheVariants as faults
+use Rattle.filter_sql.specs.declared.lex.LexError.{LexError as Unread}
+use Rattle.filter_sql.specs.declared.lex.LexError.TheVariants as unreads
+use Rattle.filter_sql.specs.declared.parsing.errors.Cause.{Cause}
+use Rattle.filter_sql.specs.declared.parsing.errors.Cause.TheVariants as causes
+use Rattle.filter_sql.specs.declared.parsing.errors.TokenError.{TokenError}
+use Rattle.filter_sql.specs.declared.parsing.errors.TokenError.TheVariants as faults
 use Rattle.filter_sql.specs.declared.token.Placed.{Placed}
-use Rattle.filter_sql.specs.Columns.{ColumnTree}
+use Rattle.filter_sql.specs.ColumnNames.{ColumnTree}
 use Rattle.vortex_filter.specs.Formula.{Formula, formula}
 use Rattle.filter_sql.specs.Parsing.{AllOrdered, types_of, IsSqlWithin, IsNoSqlWithin, IsReadable, ReadsAs, RefusesSqlWithin, depth, tokens_in}
 use Rattle.filter_sql.specs.Printing.{tokens_of}
@@ -63,7 +63,7 @@ pub ruleset mistakes = (fault_placed, fault_told, mistake_told)
 -- ---- tokens behind which the text goes on, or ends
 
 -- the first mistake of tokens that are a filter is that they do not end
-whole_mistake : (o : Read) (f : Formula) (d : Fault) → ended_read o ≡ Some f → behind_read o (λ us. expected us expects.End) d ≡ faults.At 0 (causes.Expected expects.End)
+whole_mistake : (o : Read) (f : Formula) (d : TokenError) → ended_read o ≡ Some f → behind_read o (λ us. expected us expects.End) d ≡ faults.At 0 (causes.Expected expects.End)
 whole_mistake None f d e = absurd cc
 whole_mistake (Some (g, [])) f d e = refl
 whole_mistake (Some (g, t ∷ ts)) f d e = absurd cc
@@ -112,7 +112,7 @@ whole_placed end o filter r is = subst (λ r. IfErr r (IsPlaced end)) (sym is) (
     by_fault (Some unread) = fault_placed end unread (fault_at unread end) refl
 
 -- a mistake among tokens that are no filter
-pub mistake_refused : {Y : Type 0} (is : List Item) (ending : Ending) (read : Option Y) (mistake fault : Fault) (e : ParseError) → Fails fault read mistake → e ≡ error_of is ending fault → IsFaultIn is ending read mistake e
+pub mistake_refused : {Y : Type 0} (is : List Item) (ending : Ending) (read : Option Y) (mistake fault : TokenError) (e : ParseError) → Fails fault read mistake → e ≡ error_of is ending fault → IsFaultIn is ending read mistake e
 mistake_refused is ending read mistake faults.NoMemory e h k = subst (IsFaultIn is ending read mistake) (sym k) tt
 mistake_refused is ending read mistake (faults.At left cause) e h k = refused e (λ none. h.0, k ∙ sym (ap (error_of is ending) h.1))
   where
@@ -167,7 +167,7 @@ module _ (n : ℕ) (columns : List ColumnTree) (text : List ℕ) (ps : List Plac
   refuses (errors.TooDeep place) h = is_no_sql _ h
 
 -- nothing is refused where a filter is read and the text ends, but for want of memory
-pub only_memory : (is : List Item) (ending : Ending) (read : Option Formula) (mistake : Fault) (f : Formula) (e : ParseError) → ending.fault ≡ None → read ≡ Some f → IsFaultIn is ending read mistake e → e ≡ errors.OutOfMemory
+pub only_memory : (is : List Item) (ending : Ending) (read : Option Formula) (mistake : TokenError) (f : Formula) (e : ParseError) → ending.fault ≡ None → read ≡ Some f → IsFaultIn is ending read mistake e → e ≡ errors.OutOfMemory
 only_memory is ending read mistake f errors.OutOfMemory whole said h = refl
 only_memory is ending read mistake f (errors.Expected place what) whole said h = let both : None ≡ Some f = sym (h.0 whole) ∙ said in absurd cc
 only_memory is ending read mistake f (errors.NoColumn place) whole said h = let both : None ≡ Some f = sym (h.0 whole) ∙ said in absurd cc

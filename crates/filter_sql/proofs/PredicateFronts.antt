@@ -9,7 +9,7 @@ use Rattle.vortex_cells.specs.Cells.{Cell}
 use Rattle.vortex_filter.specs.declared.operator.CompareOperator.{CompareOperator}
 use Rattle.filter_sql.specs.declared.token.Keyword.TheVariants.{And, Not, In, Is, Null, Between, Like, Escape, True, False, StartsWith}
 use Rattle.vortex_filter.specs.declared.truth.Truth.TheVariants as truths
-use Rattle.filter_sql.specs.Columns.{ColumnTree, column_named}
+use Rattle.filter_sql.specs.ColumnNames.{ColumnTree, column_named}
 use Rattle.vortex_filter.specs.Formula.{Formula, constant, null_test, membership, negation}
 use Rattle.vortex_filter.specs.CheckSteps.{holds_strings}
 use Rattle.vortex_filter.specs.Literals.{LiteralTree, text_in, text_literal}

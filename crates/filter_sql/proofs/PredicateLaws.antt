@@ -8,7 +8,7 @@ use Rattle.vortex_cells.specs.Cells.{Cell}
 use Rattle.vortex_filter.specs.declared.operator.CompareOperator.{CompareOperator}
 use Rattle.filter_sql.specs.declared.print.Level.TheVariants as levels
 use Rattle.filter_sql.specs.declared.token.Keyword.TheVariants.{And, Not, In, Is, Null, Between, Like, Escape, StartsWith}
-use Rattle.filter_sql.specs.Columns.{ColumnTree, column_named}
+use Rattle.filter_sql.specs.ColumnNames.{ColumnTree, column_named}
 use Rattle.vortex_filter.specs.CheckSteps.{holds_strings}
 use Rattle.vortex_filter.specs.Formula.{Formula, null_test, membership, negation}
 use Rattle.vortex_filter.specs.Literals.{LiteralTree, position_of, text_in, text_literal}

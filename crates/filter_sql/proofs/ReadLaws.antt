@@ -4,7 +4,7 @@ use Rattle.std.proofs.lemmas.List.{append-nil}
 use Rattle.filter_sql.specs.declared.print.Level.{Level}
 use Rattle.filter_sql.specs.declared.print.Level.TheVariants as levels
 use Rattle.filter_sql.specs.declared.token.Keyword.TheVariants.{And, Or, Not}
-use Rattle.filter_sql.specs.Columns.{ColumnTree}
+use Rattle.filter_sql.specs.ColumnNames.{ColumnTree}
 use Rattle.vortex_filter.specs.Formula.{Formula, both, either, negation}
 use Rattle.filter_sql.specs.Tokens.{TokenTree, keyword_token, opening, closing}
 use Rattle.filter_sql.specs.Grammar.{IsFilter, predicate, group, not_filter, one_operand, and_filter, one_conjunction, or_filter}

@@ -4,8 +4,8 @@ use Rattle.std.specs.Char.{is_ascii_whitespace}
 use Rattle.std.specs.List.{AllByRecursion, prefix_len}
 use Rattle.filter_sql.specs.Tokens.{IsFront, TokenTree, token_tree, trees}
 use Rattle.filter_sql.specs.Lexing.{Cut, mark_of, token_at}
-use Rattle.filter_sql.specs.declared.lex.Fault.TheVariants.{BadText}
-use Rattle.filter_sql.specs.declared.lex.Fault.{Fault}
+use Rattle.filter_sql.specs.declared.lex.LexError.TheVariants.{BadText}
+use Rattle.filter_sql.specs.declared.lex.LexError.{LexError}
 use Rattle.filter_sql.specs.Texts.{AreItemsOf, Item, Leads, items, trimmed}
 use Rattle.filter_sql.specs.declared.token.Placed.{Placed}
 use Rattle.filter_sql.proofs.Again.{token_again}
@@ -25,7 +25,7 @@ pub front_again : (text : List ℕ) (t : TokenTree) (word after : List ℕ) → 
 front_again text t word after front = ap token_at front.whole ∙ token_again t word after front.spelled front.ends
 
 -- where reading fails there is no front
-pub no_front : (text : List ℕ) (e : Fault) → token_at text ≡ Err e → (t : TokenTree) (word after : List ℕ) → IsFront text t word after → ⊥
+pub no_front : (text : List ℕ) (e : LexError) → token_at text ≡ Err e → (t : TokenTree) (word after : List ℕ) → IsFront text t word after → ⊥
 no_front text e failed t word after front = cc (front_again text t word after front)
 
 -- the items of tokens, and of one more
@@ -62,7 +62,7 @@ one_reading end text (item ∷ items) (t ∷ ts) (word, after, front, place, mor
     cc (same.0)
 
 -- and no fault
-pub no_fault : (end : ℕ) (text : List ℕ) (items : List Item) (rest : List ℕ) (e : Fault) (ts : List TokenTree) → Leads end text items rest → 0 < length rest → token_at rest ≡ Err e → Reads text ts → ⊥
+pub no_fault : (end : ℕ) (text : List ℕ) (items : List Item) (rest : List ℕ) (e : LexError) (ts : List TokenTree) → Leads end text items rest → 0 < length rest → token_at rest ≡ Err e → Reads text ts → ⊥
 no_fault end text [] rest e [] same some none empty = absurd (let size : length rest ≡ 0 = ap length (sym same ∙ empty) in omega arith)
 no_fault end text [] rest e (t ∷ ts) same some none (next, again, others) = cc (ap token_at same)
 no_fault end text (item ∷ items) rest e [] (word, after, front, place, more) some none empty = cc (nothing, ap token_at empty, front_again text item.token word after front)

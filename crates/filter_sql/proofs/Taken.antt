@@ -12,7 +12,7 @@ use Rattle.std.proofs.lemmas.List.Sums.{prefix_len-le-length, prefix_len_passes,
 use Rattle.hex.specs.Hex.{decode_of}
 use Rattle.hex.specs.declared.error.FromHexError.{FromHexError}
 use Rattle.vortex_filter.specs.declared.operator.CompareOperator.TheVariants as operators
-use Rattle.filter_sql.specs.declared.lex.Fault.{Fault}
+use Rattle.filter_sql.specs.declared.lex.LexError.{LexError}
 use Rattle.filter_sql.specs.declared.token.Keyword.{Keyword}
 use Rattle.filter_sql.specs.Tokens.{TokenTree, name_token, integer_token, bytes_token, operator_token, opening, closing, comma, doubled, quoted, sign_text, all_keywords, keyword_text, keyword_named, is_word, is_word_byte, is_word_start, is_x, goes_on, IsFront, Spells}
 use Rattle.filter_sql.specs.Lexing.{Cut, bytes_at, bytes_cut, cut_after, integer_at, is_quote, mark_of, other_at, parameter_at, quoted_cut, quoted_token, signed_at, token_at, unquoted_at, with_byte, word_at, word_token}
@@ -268,7 +268,7 @@ parameter_taken (b ∷ bs) t after first h =
       | inl (_, e) ↦ cc
       | inr (differs, e) ↦
           let cut = run is_ascii_digit bs refl in
-          let found : ◌≡◌ {A = Result Cut Fault} (Ok (name_token (b ∷ take count bs), drop count bs)) (Ok (t, after)) = rw add-one at e in
+          let found : ◌≡◌ {A = Result Cut LexError} (Ok (name_token (b ∷ take count bs), drop count bs)) (Ok (t, after)) = rw add-one at e in
           let same : ◌≡◌ {A = Cut} (name_token (b ∷ take count bs), drop count bs) (t, after) = cc in
           let rest : drop count bs ≡ after = ap (λ (c : Cut). c.1) same in
           let token : name_token (36 ∷ take count bs) ≡ t = ap (λ (x : ℕ). name_token (x ∷ take count bs)) (sym byte) ∙ ap (λ (c : Cut). c.0) same in
@@ -337,7 +337,7 @@ word_taken b bs t after start other h =
     let count = prefix_len is_word_byte bs in
     let first : is_word_byte b ≡ true = rw start refl in
     let counted : prefix_len is_word_byte (b ∷ bs) ≡ suc count = rw first (omega arith) in
-    let found : ◌≡◌ {A = Result Cut Fault} (Ok (word_token (b ∷ take count bs) (keyword_named (b ∷ take count bs)), drop count bs)) (Ok (t, after)) = rw counted at h in
+    let found : ◌≡◌ {A = Result Cut LexError} (Ok (word_token (b ∷ take count bs) (keyword_named (b ∷ take count bs)), drop count bs)) (Ok (t, after)) = rw counted at h in
     let same : ◌≡◌ {A = Cut} (word_token (b ∷ take count bs) (keyword_named (b ∷ take count bs)), drop count bs) (t, after) = cc in
     let cut = run is_word_byte bs refl in
     let seam : get_or (take count bs ++ drop count bs) 0 0 ≡ get_or bs 0 0 = ap (λ (l : List ℕ). get_or l 0 0) (sym cut.whole) in

@@ -7,9 +7,9 @@ use Rattle.std.proofs.lemmas.Str.{IsUtf8-from_is_utf8, is_utf8-from_IsUtf8}
 use Rattle.vortex_dtype.specs.TypeTree.{TypeTree, utf8_type}
 use Rattle.vortex_cells.specs.Cells.{Cell}
 use Rattle.filter_sql.specs.declared.error.Expected.TheVariants as expects
-use Rattle.filter_sql.specs.declared.parsing.fault.Cause.TheVariants as causes
-use Rattle.filter_sql.specs.declared.parsing.fault.Fault.{Fault}
-use Rattle.filter_sql.specs.declared.parsing.fault.Fault.TheVariants as faults
+use Rattle.filter_sql.specs.declared.parsing.errors.Cause.TheVariants as causes
+use Rattle.filter_sql.specs.declared.parsing.errors.TokenError.{TokenError}
+use Rattle.filter_sql.specs.declared.parsing.errors.TokenError.TheVariants as faults
 use Rattle.filter_sql.specs.declared.token.Placed.{Placed}
 use Rattle.vortex_filter.specs.Formula.{Formula, prefix_test}
 use Rattle.vortex_filter.specs.Literals.{text_cell, text_in}
@@ -72,7 +72,7 @@ cells_wrong : (t : TypeTree) (ts : List TokenTree) → position_at t ts ≡ None
 unfolding cells_mistake
 cells_wrong t ts e = rw e refl
 
-pub cells_left_fail : (e : Fault) (t : TypeTree) (ts : List TokenTree) → Fails e (position_at t ts) (literal_mistake t ts) → Fails e (cells_at t ts) (cells_mistake t ts)
+pub cells_left_fail : (e : TokenError) (t : TypeTree) (ts : List TokenTree) → Fails e (position_at t ts) (literal_mistake t ts) → Fails e (cells_at t ts) (cells_mistake t ts)
 cells_left_fail e t ts failed = fails_on e _ _ _ _ (λ none. (cells_fail t ts none, cells_wrong t ts none)) failed
 
 -- behind the first literal
@@ -114,7 +114,7 @@ two_fronts : (front more : List Cell) (r : Option (List Cell × List TokenTree))
 two_fronts front more None = refl
 two_fronts front more (Some x) = ap (λ (cs : List Cell). Some (cs, x.1)) (sym (append_assoc front more x.0))
 
-module _ (t : TypeTree) (front : List Cell) (ts : List TokenTree) (total : Option (List Cell × List TokenTree)) (so_far : with_front front (more_cells t ts) ≡ total) (wrong : Fault) (mistake : more_mistake t ts ≡ wrong) where
+module _ (t : TypeTree) (front : List Cell) (ts : List TokenTree) (total : Option (List Cell × List TokenTree)) (so_far : with_front front (more_cells t ts) ≡ total) (wrong : TokenError) (mistake : more_mistake t ts ≡ wrong) where
   pub wrong_on : (us : List TokenTree) (l : PositionTree) (vs : List TokenTree) → Some us ≡ after_comma ts → position_at t us ≡ Some (l, vs) → more_mistake t vs ≡ wrong
   wrong_on us l vs word read = sym (wrong_goes_on t us vs l read) ∙ sym (ap (more_mistake t) (comma_came ts us word)) ∙ mistake
 
@@ -131,7 +131,7 @@ module _ (t : TypeTree) (front : List Cell) (ts : List TokenTree) (total : Optio
   wrong_ends : (us : List TokenTree) → Some us ≡ after_comma ts → position_at t us ≡ None → wrong ≡ literal_mistake t us
   wrong_ends us word none = sym mistake ∙ ap (more_mistake t) (comma_came ts us word) ∙ wrong_here t us none
 
-  pub literal_fails : (e : Fault) (us : List TokenTree) → Some us ≡ after_comma ts → Fails e (position_at t us) (literal_mistake t us) → Fails e total wrong
+  pub literal_fails : (e : TokenError) (us : List TokenTree) → Some us ≡ after_comma ts → Fails e (position_at t us) (literal_mistake t us) → Fails e total wrong
   literal_fails e us word failed = fails_on e _ _ _ _ (λ none. (none_ends us word none, wrong_ends us word none)) failed
 
 no_end : (t : TypeTree) (ts : List TokenTree) → None ≡ after_comma ts → after_closing ts ≡ None → more_cells t ts ≡ None
@@ -152,11 +152,11 @@ no_comma t [] c = refl
 no_comma t (comma ∷ ts) c = absurd cc
 no_comma t (_ ∷ ts) c = refl
 
-module _ (t : TypeTree) (front : List Cell) (ts : List TokenTree) (total : Option (List Cell × List TokenTree)) (so_far : with_front front (more_cells t ts) ≡ total) (wrong : Fault) (mistake : more_mistake t ts ≡ wrong) where
+module _ (t : TypeTree) (front : List Cell) (ts : List TokenTree) (total : Option (List Cell × List TokenTree)) (so_far : with_front front (more_cells t ts) ≡ total) (wrong : TokenError) (mistake : more_mistake t ts ≡ wrong) where
   not_ended : None ≡ after_comma ts → after_closing ts ≡ None → total ≡ None
   not_ended c d = sym so_far ∙ ap (with_front front) (no_end t ts c d)
 
-  pub end_fails : (e : Fault) → None ≡ after_comma ts → Fails e (after_closing ts) (expected ts expects.Closing) → Fails e total wrong
+  pub end_fails : (e : TokenError) → None ≡ after_comma ts → Fails e (after_closing ts) (expected ts expects.Closing) → Fails e total wrong
   end_fails e c failed = fails_on e _ _ _ _ (λ none. (not_ended c none, sym mistake ∙ no_comma t ts c)) failed
 
   pub ends : (us : List TokenTree) → after_closing ts ≡ Some us → total ≡ Some (front, us)
@@ -193,7 +193,7 @@ module _ (k : ℕ) (t : TypeTree) (bs : List ℕ) where
   text_wrong : (left : ℕ) → IsUtf8 bs → faults.At left (text_cause t bs) ≡ faults.At left (other_type t)
   text_wrong left utf8 = rw (is_utf8-from_IsUtf8 bs utf8) refl
 
-  pub text_fails : (e : Fault) (left : ℕ) → IsUtf8 bs → Fails e (text_in t bs) (faults.At left (other_type t)) → Fails e (text_prefix k t bs) (faults.At left (text_cause t bs))
+  pub text_fails : (e : TokenError) (left : ℕ) → IsUtf8 bs → Fails e (text_in t bs) (faults.At left (other_type t)) → Fails e (text_prefix k t bs) (faults.At left (text_cause t bs))
   text_fails e left utf8 failed = fails_on e _ _ _ _ (λ none. (text_none utf8 none, text_wrong left utf8)) failed
 
   no_string_by : (left : ℕ) (b : Bool) → is_utf8 bs ≡ b → (IsUtf8 bs → ⊥) → faults.At left (text_cause t bs) ≡ faults.At left (causes.Expected expects.Prefix)
@@ -212,13 +212,13 @@ same_prefix : (k : ℕ) (bs : List ℕ) (l : PositionTree) → l ≡ exactly (te
 same_prefix k bs l e = ap (prefix_of k) e
 
 -- what is read is told as it is, whatever mistake there could be
-read_told : {X Y : Type 0} (view : X → Y) (r : Result X Fault) (read : Option Y) (y : Y) (m n : Fault) → read ≡ Some y → Gives view r read m → Gives view r read n
+read_told : {X Y : Type 0} (view : X → Y) (r : Result X TokenError) (read : Option Y) (y : Y) (m n : TokenError) → read ≡ Some y → Gives view r read m → Gives view r read n
 read_told view (Ok x) read y m n is given = given
 read_told view (Err faults.NoMemory) read y m n is given = tt
 read_told view (Err (faults.At left cause)) read y m n is given = let clash : None ≡ Some y = sym given.0 ∙ is in absurd cc
 
 -- a string is a prefix
-pub string_prefix : {X : Type 0} (view : X → Formula) (r : Result X Fault) (k : ℕ) (t : TypeTree) (bs : List ℕ) (l : PositionTree) (m n : Fault) → text_in t bs ≡ Some l → Gives view r (prefix_of k l) m → Gives view r (prefix_of k l) n
+pub string_prefix : {X : Type 0} (view : X → Formula) (r : Result X TokenError) (k : ℕ) (t : TypeTree) (bs : List ℕ) (l : PositionTree) (m n : TokenError) → text_in t bs ≡ Some l → Gives view r (prefix_of k l) m → Gives view r (prefix_of k l) n
 string_prefix view r k t bs l m n said given = read_told view r (prefix_of k l) (prefix_test k (text_cell bs)) m n (same_prefix k bs l (string_is t bs l said)) given
 
 -- ---- patterns

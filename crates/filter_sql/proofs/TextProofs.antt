@@ -2,11 +2,11 @@
 use Rattle.std.proofs.Common.{◌≡◌, ℕ, zero, suc, ◌+◌, ◌≤◌, List, [], ◌∷◌, Option, Some, None, refl, sym, subst, ◌∙◌, length, arith}
 use Rattle.filter_sql.specs.declared.error.ParseError.{ParseError}
 use Rattle.filter_sql.specs.declared.error.ParseError.TheVariants as errors
-use Rattle.filter_sql.specs.declared.lex.Fault.{Fault as Unread}
+use Rattle.filter_sql.specs.declared.lex.LexError.{LexError as Unread}
 use Rattle.filter_sql.specs.declared.print.Level.{Level}
 use Rattle.filter_sql.specs.declared.print.Level.TheVariants as levels
 use Rattle.vortex_filter.specs.Formula.{Formula}
-use Rattle.filter_sql.specs.Columns.{ColumnTree}
+use Rattle.filter_sql.specs.ColumnNames.{ColumnTree}
 use Rattle.filter_sql.specs.Grammar.{IsFilter, predicate, group, not_filter, one_operand, and_filter, one_conjunction, or_filter}
 use Rattle.filter_sql.specs.Parsing.{IsNoSqlWithin, IsSqlWithin, tokens_in}
 use Rattle.filter_sql.specs.Reading.{filter_at}

@@ -9,8 +9,8 @@ use Rattle.hex.specs.declared.error.FromHexError.{FromHexError}
 use Rattle.vortex_filter.specs.declared.operator.CompareOperator.TheVariants as operators
 use Rattle.filter_sql.specs.declared.error.ParseError.{ParseError}
 use Rattle.filter_sql.specs.declared.error.ParseError.TheVariants as errors
-use Rattle.filter_sql.specs.declared.lex.Fault.{Fault}
-use Rattle.filter_sql.specs.declared.lex.Fault.TheVariants.{OutOfMemory, NumberTooLong, BadText}
+use Rattle.filter_sql.specs.declared.lex.LexError.{LexError}
+use Rattle.filter_sql.specs.declared.lex.LexError.TheVariants.{OutOfMemory, NumberTooLong, BadText}
 use Rattle.filter_sql.specs.declared.token.Keyword.{Keyword}
 use Rattle.filter_sql.specs.declared.token.Token.{Token}
 use Rattle.filter_sql.specs.Tokens.{TokenTree, keyword_token, name_token, integer_token, string_token, bytes_token, operator_token, opening, closing, comma, token_tree, keyword_named, is_word_byte, is_word_start}
@@ -24,12 +24,12 @@ abbrev pub view : Token × Bor (List ℕ) → Cut
 view found = (token_tree found.0, found.1.now)
 
 -- a function failed as the text says, or for want of memory
-abbrev pub Fails : Fault → Result Cut Fault → Type 0
+abbrev pub Fails : LexError → Result Cut LexError → Type 0
 Fails OutOfMemory read = Unit {0}
 Fails fault read = read ≡ Err fault
 
 -- a function returned what the text says, unless memory ran out
-abbrev pub Gives : {X : Type 0} → (X → Cut) → Result X Fault → Result Cut Fault → Type 0
+abbrev pub Gives : {X : Type 0} → (X → Cut) → Result X LexError → Result Cut LexError → Type 0
 Gives view (Ok x) read = read ≡ Ok (view x)
 Gives view (Err e) read = Fails e read
 
@@ -67,15 +67,15 @@ unquoted_at quote (b ∷ c ∷ bs) =
 abbrev pub quoted_token : ℕ → List ℕ → TokenTree
 quoted_token quote content = if quote == 34 then name_token content else string_token content
 
-abbrev pub quoted_cut : ℕ → Option (List ℕ × List ℕ) → Result Cut Fault
+abbrev pub quoted_cut : ℕ → Option (List ℕ × List ℕ) → Result Cut LexError
 quoted_cut quote None = Err BadText
 quoted_cut quote (Some found) = Ok (quoted_token quote found.0, found.1)
 
 -- a name or a string, behind its first quote
-abbrev pub quoted_at : ℕ → List ℕ → Result Cut Fault
+abbrev pub quoted_at : ℕ → List ℕ → Result Cut LexError
 quoted_at quote text = quoted_cut quote (unquoted_at quote text)
 
-abbrev pub bytes_cut : Result (List ℕ) FromHexError → List ℕ → Result Cut Fault
+abbrev pub bytes_cut : Result (List ℕ) FromHexError → List ℕ → Result Cut LexError
 bytes_cut (Ok content) after = Ok (bytes_token content, after)
 bytes_cut (Err e) after = Err BadText
 
@@ -83,13 +83,13 @@ abbrev pub is_quote : ℕ → Bool
 is_quote b = b == 39
 
 -- the bytes behind x and a quote
-unfoldable pub bytes_at : List ℕ → Result Cut Fault
+unfoldable pub bytes_at : List ℕ → Result Cut LexError
 bytes_at text =
     if nat_lt (position_or_len is_quote text) (length text) then bytes_cut (decode_of (before_first is_quote text)) (after_first is_quote text)
     else Err BadText
 
 -- the number whose digits stand first
-unfoldable pub integer_at : Bool → List ℕ → Result Cut Fault
+unfoldable pub integer_at : Bool → List ℕ → Result Cut LexError
 integer_at negative text =
     let count = prefix_len is_ascii_digit text in
     let magnitude = digits_value 10 (take count text) in
@@ -98,11 +98,11 @@ integer_at negative text =
     else Err NumberTooLong
 
 -- a number, with a minus sign or none
-unfoldable pub signed_at : List ℕ → Result Cut Fault
+unfoldable pub signed_at : List ℕ → Result Cut LexError
 signed_at text = if slice_index text 0 == 45 then integer_at true (drop 1 text) else integer_at false text
 
 -- a name of a dollar sign and digits
-unfoldable pub parameter_at : List ℕ → Result Cut Fault
+unfoldable pub parameter_at : List ℕ → Result Cut LexError
 parameter_at text =
     let count = prefix_len is_ascii_digit (drop 1 text) in
     if count == 0 then Err BadText else Ok (name_token (take (count + 1) text), drop (count + 1) text)
@@ -112,13 +112,13 @@ word_token word None = name_token word
 word_token word (Some k) = keyword_token k
 
 -- a keyword or a bare name
-unfoldable pub word_at : List ℕ → Result Cut Fault
+unfoldable pub word_at : List ℕ → Result Cut LexError
 word_at text =
     let count = prefix_len is_word_byte text in
     Ok (word_token (take count text) (keyword_named (take count text)), drop count text)
 
 -- what is no mark, by its first two bytes
-abbrev pub other_at : ℕ → ℕ → List ℕ → Result Cut Fault
+abbrev pub other_at : ℕ → ℕ → List ℕ → Result Cut LexError
 other_at first second text =
     if first == 34 then quoted_at 34 (drop 1 text)
     else if first == 39 then quoted_at 39 (drop 1 text)
@@ -128,19 +128,19 @@ other_at first second text =
     else if is_word_start first then word_at text
     else Err BadText
 
-abbrev pub cut_after : Option (TokenTree × ℕ) → List ℕ → Result Cut Fault → Result Cut Fault
+abbrev pub cut_after : Option (TokenTree × ℕ) → List ℕ → Result Cut LexError → Result Cut LexError
 cut_after None text other = other
 cut_after (Some found) text other = Ok (found.0, drop found.1 text)
 
 -- the first token of a text that has no white space first
-unfoldable pub token_at : List ℕ → Result Cut Fault
+unfoldable pub token_at : List ℕ → Result Cut LexError
 token_at text =
     let first = slice_index text 0 in
     let second = slice_index text 1 in
     cut_after (mark_of first second) text (other_at first second text)
 
 -- the fault, at its offset
-abbrev pub fault_at : Fault → ℕ → ParseError
+abbrev pub fault_at : LexError → ℕ → ParseError
 fault_at OutOfMemory place = errors.OutOfMemory
 fault_at NumberTooLong place = errors.NumberTooLong place
 fault_at BadText place = errors.BadText place

@@ -1,4 +1,4 @@
-pub mod Columns
+pub mod ColumnNames
 pub mod Faults
 pub mod Grammar
 pub mod Lexing

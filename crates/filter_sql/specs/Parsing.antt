@@ -12,7 +12,7 @@ use Rattle.filter_sql.specs.declared.error.ParseError.TheVariants as errors
 use Rattle.filter_sql.specs.declared.lex.Ending.{Ending}
 use Rattle.filter_sql.specs.declared.print.Level.{Level}
 use Rattle.filter_sql.specs.declared.print.Level.TheVariants as levels
-use Rattle.filter_sql.specs.Columns.{ColumnTree, column_named}
+use Rattle.filter_sql.specs.ColumnNames.{ColumnTree, column_named}
 use Rattle.vortex_filter.specs.Formula.{Formula, formula, constant, comparison, null_test, membership, range, prefix_test, both, either, negation}
 use Rattle.filter_sql.specs.Grammar.{IsFilter}
 use Rattle.vortex_filter.specs.CheckSteps.{holds_strings}

@@ -8,10 +8,10 @@ use Rattle.vortex_dtype.specs.declared.ptype.PType.TheVariants.{I32, U8}
 use Rattle.vortex_cells.specs.Cells.{Cell}
 use Rattle.vortex_value.specs.Values.Content.{Content, null, whole, text, string}
 use Rattle.vortex_filter.specs.declared.operator.CompareOperator.TheVariants.{NotEq, Gte, Lt, Eq}
-use Rattle.filter_sql.specs.declared.lex.Fault.TheVariants.{BadText, NumberTooLong}
+use Rattle.filter_sql.specs.declared.lex.LexError.TheVariants.{BadText, NumberTooLong}
 use Rattle.filter_sql.specs.declared.error.Expected.TheVariants as expects
-use Rattle.filter_sql.specs.declared.parsing.fault.Cause.TheVariants as causes
-use Rattle.filter_sql.specs.declared.parsing.fault.Fault.TheVariants as faults
+use Rattle.filter_sql.specs.declared.parsing.errors.Cause.TheVariants as causes
+use Rattle.filter_sql.specs.declared.parsing.errors.TokenError.TheVariants as faults
 use Rattle.filter_sql.specs.declared.token.Keyword.TheVariants.{And, In, Not, Or}
 use Rattle.filter_sql.specs.declared.token.Keyword.TheVariants as keywords
 use Rattle.vortex_filter.specs.declared.truth.Truth.TheVariants.{True, Unknown}
@@ -19,7 +19,7 @@ use Rattle.vortex_filter.specs.Formula.{Formula, constant, comparison, null_test
 use Rattle.filter_sql.specs.Lexing.{bytes_at, integer_at, mark_of, parameter_at, signed_at, token_at, unquoted_at, word_at}
 use Rattle.filter_sql.specs.Tokens.{bytes_token, closing, integer_token, keyword_named, keyword_token, name_token, opening, operator_token, string_token}
 use Rattle.filter_sql.specs.Printing.{sql_text}
-use Rattle.filter_sql.specs.Columns.{ColumnTree, column_named, numbered_place}
+use Rattle.filter_sql.specs.ColumnNames.{ColumnTree, column_named, numbered_place}
 use Rattle.vortex_filter.specs.Literals.{number_cell, number_literal, text_literal}
 use Rattle.filter_sql.specs.Literals.{Condition, between, compared, formula_in, listed, literal_of, pattern_prefix}
 use Rattle.filter_sql.specs.Mistakes.{cells_mistake, condition_mistake, conjunction_mistake, disjunction_mistake, escape_mistake, filter_mistake, group_mistake, like_mistake, literal_mistake, members_mistake, mistake_at, mistakes, more_mistake, operand_mistake, predicate_mistake, test_mistake}

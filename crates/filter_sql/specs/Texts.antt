@@ -3,8 +3,8 @@ use Rattle.std.specs.Prelude.{◌≡◌, ◌<◌, ◌+◌, ℕ, List, [], ◌∷
 use Rattle.std.specs.Global.{Global}
 use Rattle.std.specs.Char.{is_ascii_whitespace}
 use Rattle.std.specs.List.{prefix_len}
-use Rattle.filter_sql.specs.declared.lex.Fault.{Fault}
-use Rattle.filter_sql.specs.declared.lex.Fault.TheVariants.{OutOfMemory}
+use Rattle.filter_sql.specs.declared.lex.LexError.{LexError}
+use Rattle.filter_sql.specs.declared.lex.LexError.TheVariants.{OutOfMemory}
 use Rattle.filter_sql.specs.declared.lex.Ending.{Ending}
 use Rattle.filter_sql.specs.declared.lex.Lexed.{Lexed}
 use Rattle.filter_sql.specs.declared.error.ParseError.{ParseError}
@@ -37,7 +37,7 @@ abbrev pub AreItemsOf : List ℕ → List Item → Type 0
 AreItemsOf text items = Leads (length text) (trimmed text) items []
 
 -- the text goes on behind these tokens, and for this fault no token begins at the offset where it does
-pub record StopsAt (text : List ℕ) (items : List Item) (fault : Fault) (place : ℕ) : Type 0 where
+pub record StopsAt (text : List ℕ) (items : List Item) (fault : LexError) (place : ℕ) : Type 0 where
   pub rest : List ℕ
   pub read : Leads (length text) (trimmed text) items rest
   pub here : place + length rest ≡ length text
@@ -45,7 +45,7 @@ pub record StopsAt (text : List ℕ) (items : List Item) (fault : Fault) (place 
   pub none : (t : TokenTree) (word after : List ℕ) → IsFront rest t word after → ⊥
   pub why : token_at rest ≡ Err fault
 
-abbrev pub EndsFor : List ℕ → List Item → ℕ → Option Fault → Type 0
+abbrev pub EndsFor : List ℕ → List Item → ℕ → Option LexError → Type 0
 EndsFor text items place None = AreItemsOf text items × (place ≡ length text)
 EndsFor text items place (Some fault) = StopsAt text items fault place
 
@@ -54,6 +54,6 @@ abbrev pub EndsAt : List ℕ → List Item → Ending → Type 0
 EndsAt text items ending = EndsFor text items ending.place ending.fault
 
 -- the tokens before an offset where none was read, unless it was for want of memory
-abbrev pub stopped : Vec Placed Global → ℕ → Fault → Result Lexed ParseError
+abbrev pub stopped : Vec Placed Global → ℕ → LexError → Result Lexed ParseError
 stopped tokens place OutOfMemory = Err errors.OutOfMemory
 stopped tokens place fault = Ok (record { tokens = tokens; ending = record { place = place; fault = Some fault } })

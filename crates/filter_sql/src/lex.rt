@@ -15,7 +15,7 @@ use vortex_filter::CompareOperator;
 
 /// Why no token was read.
 #[derive(Clone, Copy, Debug, PartialEq, Eq)]
-pub(crate) enum Fault {
+pub(crate) enum LexError {
     OutOfMemory,
     NumberTooLong,
     BadText,
@@ -136,14 +136,14 @@ fn unquoted(alloc: Global, text: &str, quote: char) -> Result<Option<(String, &s
 }
 
 /// A name or a string, behind its first quote.
-fn quoted(alloc: Global, text: &str, quote: char) -> Result<(Token, &str), Fault>
+fn quoted(alloc: Global, text: &str, quote: char) -> Result<(Token, &str), LexError>
     requires { quote < 128 }
     ensures { Gives view result (quoted_at quote text.now) }
 {
     match unquoted(alloc, text, quote) {
         Ok(Some((content, after))) => Ok((quoted_token(content, quote), after)),
-        Ok(None) => Err(Fault::BadText),
-        Err(_) => Err(Fault::OutOfMemory),
+        Ok(None) => Err(LexError::BadText),
+        Err(_) => Err(LexError::OutOfMemory),
     }
 }
 
@@ -159,16 +159,16 @@ fn quoted_token(content: String, quote: char) -> Token
 
 /// The bytes behind `x'`.
 #[tactic(auto, using(crate::proofs::Cuts::cuts), unfolding(crate::specs::Lexing::bytes_at))]
-fn hexadecimal(alloc: Global, text: &str) -> Result<(Token, &str), Fault>
+fn hexadecimal(alloc: Global, text: &str) -> Result<(Token, &str), LexError>
     ensures { Gives view result (bytes_at text.now) }
 {
     let Some((digits, after)) = text.split_once('\'') else {
-        return Err(Fault::BadText);
+        return Err(LexError::BadText);
     };
     match hex::decode(alloc, digits) {
         Ok(bytes) => Ok((Token::Bytes(bytes), after)),
-        Err(FromHexError::OutOfMemory) => Err(Fault::OutOfMemory),
-        Err(_) => Err(Fault::BadText),
+        Err(FromHexError::OutOfMemory) => Err(LexError::OutOfMemory),
+        Err(_) => Err(LexError::BadText),
     }
 }
 
@@ -181,12 +181,12 @@ fn digits_len(text: &[u8]) -> usize
 
 /// The number whose digits stand first.
 #[tactic(auto, using(crate::proofs::Cuts::cuts), unfolding(crate::specs::Lexing::integer_at))]
-fn magnitude(text: &str, is_negative: bool) -> Result<(Token, &str), Fault>
+fn magnitude(text: &str, is_negative: bool) -> Result<(Token, &str), LexError>
     ensures { Gives view result (integer_at is_negative text.now) }
 {
     let count = digits_len(text.as_bytes());
     if count == 0 {
-        return Err(Fault::BadText);
+        return Err(LexError::BadText);
     }
     let after = past(text, count);
     match text[..count].parse::<u64>() {
@@ -197,13 +197,13 @@ fn magnitude(text: &str, is_negative: bool) -> Result<(Token, &str), Fault>
             },
             after,
         )),
-        Err(_) => Err(Fault::NumberTooLong),
+        Err(_) => Err(LexError::NumberTooLong),
     }
 }
 
 /// A number, with a minus sign or none.
 #[tactic(auto, using(crate::proofs::Cuts::cuts), unfolding(crate::specs::Lexing::signed_at))]
-fn integer(text: &str) -> Result<(Token, &str), Fault>
+fn integer(text: &str) -> Result<(Token, &str), LexError>
     ensures { Gives view result (signed_at text.now) }
 {
     match text.strip_prefix('-') {
@@ -214,7 +214,7 @@ fn integer(text: &str) -> Result<(Token, &str), Fault>
 
 /// A name such as `$1`.
 #[tactic(auto, using(crate::proofs::Cuts::cuts), unfolding(crate::specs::Lexing::parameter_at))]
-fn parameter(alloc: Global, text: &str) -> Result<(Token, &str), Fault>
+fn parameter(alloc: Global, text: &str) -> Result<(Token, &str), LexError>
     requires some { 0 < length text.now }
     requires dollar { get_or text.now 0 0 ≡ 36 }
     ensures { Gives view result (parameter_at text.now) }
@@ -222,14 +222,14 @@ fn parameter(alloc: Global, text: &str) -> Result<(Token, &str), Fault>
     let digits = past(text, 1);
     let count = digits_len(digits.as_bytes());
     if count == 0 {
-        return Err(Fault::BadText);
+        return Err(LexError::BadText);
     }
     let after = past(digits, count);
     name(alloc, text, text.len() - after.len())
 }
 
 /// The bare name of so many bytes.
-fn name(alloc: Global, text: &str, count: usize) -> Result<(Token, &str), Fault>
+fn name(alloc: Global, text: &str, count: usize) -> Result<(Token, &str), LexError>
     requires some { 0 < count }
     requires within { count ≤ length text.now }
     requires ascii { get_or text.now (count - 1) 0 < 128 }
@@ -238,7 +238,7 @@ fn name(alloc: Global, text: &str, count: usize) -> Result<(Token, &str), Fault>
     let after = past(text, count);
     match String::from_str(alloc, &text[..count]) {
         Ok(content) => Ok((Token::Name(content), after)),
-        Err(_) => Err(Fault::OutOfMemory),
+        Err(_) => Err(LexError::OutOfMemory),
     }
 }
 
@@ -251,7 +251,7 @@ fn word_len(text: &[u8]) -> usize
 
 /// A keyword or a bare name.
 #[tactic(auto, using(crate::proofs::Cuts::cuts), unfolding(crate::specs::Lexing::word_at))]
-fn word(alloc: Global, text: &str) -> Result<(Token, &str), Fault>
+fn word(alloc: Global, text: &str) -> Result<(Token, &str), LexError>
     requires { is_word_start (get_or text.now 0 0) ≡ true }
     ensures { Gives view result (word_at text.now) }
 {
@@ -264,7 +264,7 @@ fn word(alloc: Global, text: &str) -> Result<(Token, &str), Fault>
 
 /// The first token of the text, which has no white space first, and what follows it.
 #[tactic(auto, using(crate::proofs::Cuts::cuts), unfolding(crate::specs::Lexing::token_at))]
-fn first_token(alloc: Global, text: &str) -> Result<(Token, &str), Fault>
+fn first_token(alloc: Global, text: &str) -> Result<(Token, &str), LexError>
     requires { 0 < length text.now }
     ensures { Gives view result (token_at text.now) }
 {
@@ -281,18 +281,18 @@ fn first_token(alloc: Global, text: &str) -> Result<(Token, &str), Fault>
         b'$' => parameter(alloc, text),
         b'x' | b'X' if second == b'\'' => hexadecimal(alloc, past(text, 2)),
         _ if is_word_start(first) => word(alloc, text),
-        _ => Err(Fault::BadText),
+        _ => Err(LexError::BadText),
     }
 }
 
 /// The fault, at its offset.
-pub(crate) fn at(fault: Fault, place: usize) -> ParseError
+pub(crate) fn at(fault: LexError, place: usize) -> ParseError
     ensures { result ≡ fault_at fault place }
 {
     match fault {
-        Fault::OutOfMemory => ParseError::OutOfMemory,
-        Fault::NumberTooLong => ParseError::NumberTooLong { offset: place },
-        Fault::BadText => ParseError::BadText { offset: place },
+        LexError::OutOfMemory => ParseError::OutOfMemory,
+        LexError::NumberTooLong => ParseError::NumberTooLong { offset: place },
+        LexError::BadText => ParseError::BadText { offset: place },
     }
 }
 
@@ -301,7 +301,7 @@ pub(crate) fn at(fault: Fault, place: usize) -> ParseError
 pub(crate) struct Ending {
     pub(crate) place: usize,
     /// Why no token begins there, if the text does not end.
-    pub(crate) fault: Option<Fault>,
+    pub(crate) fault: Option<LexError>,
 }
 
 /// The tokens of a text from the front, and where they end.
@@ -312,15 +312,15 @@ pub(crate) struct Lexed {
 }
 
 /// The tokens before an offset where none was read.
-fn stopped(tokens: Vec<Placed>, place: usize, fault: Fault) -> Result<Lexed, ParseError>
+fn stopped(tokens: Vec<Placed>, place: usize, fault: LexError) -> Result<Lexed, ParseError>
     ensures { result ≡ stopped tokens place fault }
 {
     match fault {
-        Fault::OutOfMemory => {
+        LexError::OutOfMemory => {
             drop(tokens);
             Err(ParseError::OutOfMemory)
         }
-        Fault::NumberTooLong | Fault::BadText => Ok(Lexed {
+        LexError::NumberTooLong | LexError::BadText => Ok(Lexed {
             tokens,
             ending: Ending {
                 place,

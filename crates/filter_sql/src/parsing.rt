@@ -1,8 +1,8 @@
 //! Filters from SQL text.
 
-mod columns;
+mod column_names;
 mod conditions;
-mod fault;
+mod errors;
 mod filters;
 mod literals;
 mod predicates;
@@ -11,7 +11,7 @@ mod tokens;
 ghost use Rattle.std.specs.Prelude.{◌≡◌, ◌≤◌, ℕ, List, IfErr, IfOk, None, OnOk, Some, length};
 ghost use Rattle.std.specs.List.{AllByRecursion};
 ghost use Rattle.vortex_filter.specs.Checking.{FitsColumns};
-ghost use Rattle.filter_sql.specs.Columns.{column_trees};
+ghost use Rattle.filter_sql.specs.ColumnNames.{column_trees};
 ghost use Rattle.filter_sql.specs.Faults.{IsPlaced};
 ghost use Rattle.vortex_filter.specs.FilterLiterals.{AreValid, literals_of};
 ghost use Rattle.vortex_filter.specs.Formula.{Formula, formula};
@@ -24,9 +24,9 @@ ghost use Rattle.filter_sql.specs.Tokens.{trees};
 
 use crate::column::Column;
 use crate::error::ParseError;
-use crate::lex::{Ending, Fault as Unread, at, lex};
+use crate::lex::{Ending, LexError as Unread, at, lex};
 use crate::token::Placed;
-use fault::{Cause, Fault};
+use errors::{Cause, TokenError};
 use filters::filter_of;
 use std::alloc::Global;
 use vortex_filter::Filter;
@@ -126,14 +126,14 @@ fn ended(filter: Filter, ending: Ending) -> Result<Filter, ParseError>
 }
 
 /// The error for a fault among the tokens of a text, which end so.
-fn placed(fault: Fault, tokens: &[Placed], ending: Ending) -> ParseError
+fn placed(fault: TokenError, tokens: &[Placed], ending: Ending) -> ParseError
     requires { AllByRecursion (λ p. p.place ≤ ending.place) tokens.now }
     ensures error { result ≡ error_of (items tokens.now) ending fault }
     ensures placed { IsPlaced ending.place result }
 {
     match fault {
-        Fault::NoMemory => ParseError::OutOfMemory,
-        Fault::At(left, cause) => mistake_at(left, cause, tokens, ending.place, ending.fault),
+        TokenError::NoMemory => ParseError::OutOfMemory,
+        TokenError::At(left, cause) => mistake_at(left, cause, tokens, ending.place, ending.fault),
     }
 }
 

@@ -1,6 +1,6 @@
 //! Texts of filters, read as the filters that they are.
 
-ghost use Rattle.filter_sql.specs.Columns.{column_trees};
+ghost use Rattle.filter_sql.specs.ColumnNames.{column_trees};
 ghost use Rattle.filter_sql.specs.Parsing.{IsSql, ReadsAs};
 ghost use Rattle.vortex_filter.specs.Formula.{Formula};
 

@@ -4,10 +4,10 @@ use Rattle.std.proofs.lemmas.List.{length-take}
 use Rattle.std.specs.Option.{option_copied, option_map}
 use Rattle.vortex_c.specs.Bounds.{HasNone, IsWholeOrBest}
 use Rattle.vortex_c.specs.ColumnAnswers.{AnswersColumn}
-use Rattle.vortex_c.specs.Columns.{AreColumnBounds, HasColumnBounds, IsColumn, IsGreatestAt, IsLeastAt, some_where, value_at}
+use Rattle.vortex_c.specs.ColumnBounds.{AreColumnBounds, HasColumnBounds, IsColumn, IsGreatestAt, IsLeastAt, some_where, value_at}
 use Rattle.vortex_c.specs.Uppers.{bytes_of}
 use Rattle.vortex_c.specs.declared.bounds.Upper.{Upper}
-use Rattle.vortex_c.specs.declared.columns.BoundLengths.{BoundLengths}
+use Rattle.vortex_c.specs.declared.column_bounds.BoundLengths.{BoundLengths}
 use Rattle.vortex_c.specs.declared.status.TheConstants.{GIVEN, NO_MEMORY, BUFFER_TOO_SMALL, NOT_UTF8}
 use Rattle.vortex_dtype.specs.declared.buffer.TheConstants.{INLINE_BYTES}
 

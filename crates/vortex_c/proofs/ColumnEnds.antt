@@ -4,7 +4,7 @@ use Rattle.std.specs.Cmp.Lexicographic.{slice_cmp}
 use Rattle.std.specs.Ordering.{MatchOrdering, ordering_reverse, ordering_then}
 use Rattle.std.proofs.lemmas.Cmp.{nat_list_cmp_total, ranked}
 use Rattle.vortex_bounds.specs.Strings.{NotAbove}
-use Rattle.vortex_c.specs.Columns.{AreEndsText, IsGreatestAt, IsLeastAt, value_at}
+use Rattle.vortex_c.specs.ColumnBounds.{AreEndsText, IsGreatestAt, IsLeastAt, value_at}
 
 tied_first : (o p : Ordering) → ordering_then o p ≡ Equal → o ≡ Equal
 tied_first Less p e = cc

@@ -6,7 +6,7 @@ use Rattle.vortex_value.specs.Size.{capped}
 use Rattle.column_keys.specs.Keys.{AreRowKeys, keys_length}
 use Rattle.column_keys.specs.Tables.{AreReadFrom, contents_in, options_in, options_of, table_of}
 use Rattle.arrow_columns.specs.Columns.{rows_in}
-use Rattle.column_keys.specs.declared.columns.KeyColumn.{KeyColumn}
+use Rattle.column_keys.specs.declared.key_columns.KeyColumn.{KeyColumn}
 use Rattle.vortex_c.specs.RowKeys.{AreAllKeys, all_keys_length}
 
 all-options : (options : List ℕ) (columns : List Column) (table : List KeyColumn) → AreReadFrom columns options (length columns) table → length options ≡ length columns → options_of table ≡ map options_in options

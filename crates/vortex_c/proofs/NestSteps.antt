@@ -22,7 +22,7 @@ use Rattle.vortex_filter.specs.Positions.{cells_of, comparison_of, exactly, for_
 use Rattle.vortex_filter.proofs.PositionLaws.{CellFits}
 use Rattle.filter_encoding.specs.Encoding.{CanBeWritten, IsPlain, IsPlainCell, Nests}
 use Rattle.filter_encoding.specs.Lists.{AreListed, Fits}
-use Rattle.filter_sql.specs.Columns.{column_named, column_there, ColumnTree, named_place, or_numbered, typed_place}
+use Rattle.filter_sql.specs.ColumnNames.{column_named, column_there, ColumnTree, named_place, or_numbered, typed_place}
 use Rattle.filter_sql.specs.Grammar.{and_filter, AreLiterals, bare_test, between_literals, compares, group, in_literals, in_nothing, is_not_null, is_null, IsCondition, IsFilter, IsPredicate, IsTest, like_escaped, like_pattern, more_literals, not_filter, not_test, on_column, one_conjunction, one_literal, one_operand, or_filter, predicate, prefix_call, says_false, says_null, says_true}
 use Rattle.filter_sql.specs.Literals.{begun, Condition, formula_in, missing, positions_of}
 use Rattle.filter_sql.specs.Parsing.{IsSqlWithin, tokens_in, types_of}

@@ -12,7 +12,7 @@ use Rattle.filter_encoding.specs.Encoding.{CanBeWritten, HasEncoding, Prepared, 
 use Rattle.vortex_dtype.specs.TypeOf.{type_of}
 use Rattle.vortex_dtype.specs.TypeTree.{TypeTree}
 use Rattle.vortex_dtype.specs.declared.types.DType.{DType}
-use Rattle.filter_sql.specs.Columns.{ColumnTree, column_tree, column_trees}
+use Rattle.filter_sql.specs.ColumnNames.{ColumnTree, column_tree, column_trees}
 use Rattle.filter_sql.specs.Faults.{IsPlaced}
 use Rattle.vortex_filter.specs.Formula.{Formula, formula}
 use Rattle.filter_sql.specs.Parsing.{IsSqlWithin, RefusesSqlWithin}

@@ -1,7 +1,7 @@
 -- What the bounds of a column come to: what each status says, and what is written then.
 use Rattle.std.specs.Prelude.{◌≡◌, ◌≢◌, ℕ, ◌<◌, ◌≤◌, ◌⊎◌, List, drop, false, length, take}
-use Rattle.vortex_c.specs.Columns.{AreColumnBounds, HasColumnBounds, HasValue, IsColumn, some_where}
-use Rattle.vortex_c.specs.declared.columns.BoundLengths.{BoundLengths}
+use Rattle.vortex_c.specs.ColumnBounds.{AreColumnBounds, HasColumnBounds, HasValue, IsColumn, some_where}
+use Rattle.vortex_c.specs.declared.column_bounds.BoundLengths.{BoundLengths}
 use Rattle.vortex_c.specs.declared.status.TheConstants.{GIVEN, NONE, NO_MEMORY, BUFFER_TOO_SMALL, NOT_UTF8, BAD_OFFSETS}
 use Rattle.vortex_dtype.specs.declared.buffer.TheConstants.{INLINE_BYTES}
 

@@ -6,7 +6,7 @@ use Rattle.arrow_columns.specs.Kinds.{kind_at}
 use Rattle.column_cells.specs.Types.{type_at}
 use Rattle.filter_encoding.specs.Encoding.{CanBeWritten, HasEncoding, Prepared, encoding}
 use Rattle.vortex_dtype.specs.TypeTree.{TypeTree}
-use Rattle.filter_sql.specs.Columns.{ColumnTree}
+use Rattle.filter_sql.specs.ColumnNames.{ColumnTree}
 use Rattle.filter_sql.specs.Faults.{IsPlaced, place_of}
 use Rattle.vortex_filter.specs.Formula.{Formula}
 use Rattle.filter_sql.specs.Parsing.{IsSqlWithin, RefusesSqlWithin}

@@ -4,7 +4,7 @@ pub use Rattle.column_cells.specs.Types.{type_at}
 pub use Rattle.arrow_columns.specs.Bitmaps.{bitmap_length}
 pub use Rattle.filter_encoding.specs.Encoding.{parts_of, prepared}
 pub use Rattle.vortex_dtype.specs.TypeOf.{type_of}
-pub use Rattle.filter_sql.specs.Columns.{column_tree, column_trees}
+pub use Rattle.filter_sql.specs.ColumnNames.{column_tree, column_trees}
 pub use Rattle.vortex_filter.specs.FilterLiterals.{AreValid, literals_of}
 pub use Rattle.vortex_filter.specs.Formula.{formula}
 pub use Rattle.filter_sql.specs.Parsing.{IsSqlWithin}

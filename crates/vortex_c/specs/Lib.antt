@@ -2,7 +2,7 @@ pub mod Bounds
 pub mod ColumnAnswers
 pub mod ColumnCasts
 pub mod ColumnErrors
-pub mod Columns
+pub mod ColumnBounds
 pub mod EncodingAnswers
 pub mod FilterLaws
 pub mod Filters

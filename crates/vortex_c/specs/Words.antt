@@ -24,7 +24,7 @@ pub use Rattle.vortex_c.specs.Bounds.{HasNone, IsWholeOrBest}
 pub use Rattle.vortex_c.specs.ColumnAnswers.{AnswersColumn, KeepsTheRest}
 pub use Rattle.vortex_c.specs.ColumnCasts.{AreKinds, IsCastRefusal, IsColumnCast, IsFrontCast, IsLeft, SaysWhyNoCast, fault_of_cast, status_of_cast}
 pub use Rattle.vortex_c.specs.ColumnErrors.{place_in_column, status_of_column}
-pub use Rattle.vortex_c.specs.Columns.{AreEndsText, HasEndNoText, HasValue, IsColumn, IsGreatestAt, IsLeastAt, some_where, value_at}
+pub use Rattle.vortex_c.specs.ColumnBounds.{AreEndsText, HasEndNoText, HasValue, IsColumn, IsGreatestAt, IsLeastAt, some_where, value_at}
 pub use Rattle.vortex_c.specs.EncodingAnswers.{AnswersEncoding, HasAnswer}
 pub use Rattle.vortex_c.specs.Integers.{IsCastOf, IsInteger, IsNotCast, number_in, ptype_at}
 pub use Rattle.vortex_c.specs.Parts.{AreParts, ArePartsAt, IsBoundTold, SaysWhyNotRead, SufficesFor, fault_of_read, status_of_read}

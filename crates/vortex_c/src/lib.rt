@@ -6,8 +6,8 @@
 #![tactic(auto)]
 
 mod bounds;
+mod column_bounds;
 mod column_casts;
-mod columns;
 mod depth;
 mod fault;
 mod filters;

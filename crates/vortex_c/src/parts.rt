@@ -5,7 +5,7 @@ ghost use Rattle.vortex_c.specs.Words.{AreOf, AreParts, ArePartsAt, HasAnswer, I
 ghost use Rattle.vortex_c.specs.Words.{SaysWhyNotRead, SufficesFor, bytes_of_item, fault_of_read, known, known_bound};
 ghost use Rattle.vortex_c.specs.Words.{status_of_read, type_of_kind};
 
-use crate::columns::write_both;
+use crate::column_bounds::write_both;
 use crate::fault::{Fault, at};
 use crate::status::{BAD_BYTES, BUFFER_TOO_SMALL, GIVEN, NO_MEMORY, UNKNOWN_KIND};
 use arrow_columns::Kind;

@@ -12,8 +12,8 @@ ghost use Rattle.filter_sql.specs.Mistakes.{Gives, cells_mistake, condition_mist
 ghost use Rattle.filter_sql.specs.Reading.{ending, with_front, cells_at, comparison_at, condition_at, escape_at, like_at, members_at, more_cells, null_test_at, range_at, test_at, text_prefix};
 
 use crate::error::Expected;
-use crate::parsing::columns::Found;
-use crate::parsing::fault::{Cause, Fault};
+use crate::parsing::column_names::Found;
+use crate::parsing::errors::{Cause, TokenError};
 use crate::parsing::literals::{position_at, position_in, prefix};
 use crate::parsing::tokens::{
     after_closing, after_comma, after_keyword, expect_closing, expect_keyword, expect_opening,
@@ -33,7 +33,7 @@ pub(crate) fn condition<'a>(
     alloc: Global,
     column: Found<'_>,
     rest: &'a [Placed],
-) -> Result<(Filter, &'a [Placed]), Fault>
+) -> Result<(Filter, &'a [Placed]), TokenError>
     ensures read { Gives (λ x. (formula x.0, trees x.1.now)) result
         (condition_at column.entry.place (type_of column.entry.dtype.now) (trees rest.now))
         (condition_mistake (type_of column.entry.dtype.now) (trees rest.now)) }
@@ -59,7 +59,7 @@ fn compared<'a>(
     column: Found<'_>,
     operator: CompareOperator,
     rest: &'a [Placed],
-) -> Result<(Filter, &'a [Placed]), Fault>
+) -> Result<(Filter, &'a [Placed]), TokenError>
     ensures read { Gives (λ x. (formula x.0, trees x.1.now)) result
         (comparison_at column.entry.place (type_of column.entry.dtype.now) operator (trees rest.now))
         (literal_mistake (type_of column.entry.dtype.now) (trees rest.now)) }
@@ -71,7 +71,7 @@ fn compared<'a>(
 
 /// What follows `is`: `null` or `not null`.
 #[tactic(auto, unfolding(crate::specs::Reading::null_test_at, crate::specs::Mistakes::null_test_mistake), using(vortex_filter::proofs::Steps::shown, vortex_filter::proofs::LiteralSteps::valid))]
-fn is_null(alloc: Global, column: usize, rest: &[Placed]) -> Result<(Filter, &[Placed]), Fault>
+fn is_null(alloc: Global, column: usize, rest: &[Placed]) -> Result<(Filter, &[Placed]), TokenError>
     ensures read { Gives (λ x. (formula x.0, trees x.1.now)) result
         (null_test_at column (trees rest.now)) (null_test_mistake (trees rest.now)) }
     ensures valid { IfOk result (λ x. AreValid (literals_of x.0)) }
@@ -90,7 +90,7 @@ fn test<'a>(
     alloc: Global,
     column: Found<'_>,
     rest: &'a [Placed],
-) -> Result<(Filter, &'a [Placed]), Fault>
+) -> Result<(Filter, &'a [Placed]), TokenError>
     ensures read { Gives (λ x. (formula x.0, trees x.1.now)) result
         (test_at column.entry.place (type_of column.entry.dtype.now) (trees rest.now))
         (test_mistake (type_of column.entry.dtype.now) (trees rest.now)) }
@@ -112,7 +112,7 @@ fn between<'a>(
     alloc: Global,
     column: Found<'_>,
     rest: &'a [Placed],
-) -> Result<(Filter, &'a [Placed]), Fault>
+) -> Result<(Filter, &'a [Placed]), TokenError>
     ensures read { Gives (λ x. (formula x.0, trees x.1.now)) result
         (range_at column.entry.place (type_of column.entry.dtype.now) (trees rest.now))
         (range_mistake (type_of column.entry.dtype.now) (trees rest.now)) }
@@ -130,7 +130,7 @@ fn members<'a>(
     alloc: Global,
     column: Found<'_>,
     rest: &'a [Placed],
-) -> Result<(Filter, &'a [Placed]), Fault>
+) -> Result<(Filter, &'a [Placed]), TokenError>
     ensures read { Gives (λ x. (formula x.0, trees x.1.now)) result
         (members_at column.entry.place (type_of column.entry.dtype.now) (trees rest.now))
         (members_mistake (type_of column.entry.dtype.now) (trees rest.now)) }
@@ -163,7 +163,7 @@ fn cells<'a>(
     alloc: Global,
     dtype: &DType,
     rest: &'a [Placed],
-) -> Result<(Vec<Scalar>, &'a [Placed]), Fault>
+) -> Result<(Vec<Scalar>, &'a [Placed]), TokenError>
     ensures read { Gives (λ x. (map cell_of x.0.items, trees x.1.now)) result
         (cells_at (type_of dtype.now) (trees rest.now))
         (cells_mistake (type_of dtype.now) (trees rest.now)) }
@@ -180,7 +180,7 @@ fn more_cells<'a>(
     dtype: &DType,
     literals: Vec<Scalar>,
     rest: &'a [Placed],
-) -> Result<(Vec<Scalar>, &'a [Placed]), Fault>
+) -> Result<(Vec<Scalar>, &'a [Placed]), TokenError>
     ensures read { Gives (λ x. (map cell_of x.0.items, trees x.1.now)) result
         (with_front (map cell_of literals.items) (more_cells (type_of dtype.now) (trees rest.now)))
         (more_mistake (type_of dtype.now) (trees rest.now)) }
@@ -203,7 +203,7 @@ fn like<'a>(
     alloc: Global,
     column: Found<'_>,
     rest: &'a [Placed],
-) -> Result<(Filter, &'a [Placed]), Fault>
+) -> Result<(Filter, &'a [Placed]), TokenError>
     ensures read { Gives (λ x. (formula x.0, trees x.1.now)) result
         (like_at column.entry.place (type_of column.entry.dtype.now) (trees rest.now))
         (like_mistake (type_of column.entry.dtype.now) (trees rest.now)) }
@@ -218,7 +218,7 @@ fn like<'a>(
 
 /// Whether `escape '\\'` comes next, and what follows.
 #[tactic(auto, unfolding(crate::specs::Reading::escape_at, crate::specs::Mistakes::escape_mistake))]
-fn escape_at(rest: &[Placed]) -> Result<(bool, &[Placed]), Fault>
+fn escape_at(rest: &[Placed]) -> Result<(bool, &[Placed]), TokenError>
     ensures { Gives (λ x. (x.0, trees x.1.now)) result (escape_at (trees rest.now))
         (escape_mistake (trees rest.now)) }
 {
@@ -239,9 +239,9 @@ fn pattern_prefix(
     pattern: &[u8],
     escapes: bool,
     left: usize,
-) -> Result<Vec<u8>, Fault>
+) -> Result<Vec<u8>, TokenError>
     ensures { Gives (λ v. v.items) result (pattern_prefix escapes pattern.now)
-        (Fault.At left (Cause.Expected Expected.Prefix)) }
+        (TokenError.At left (Cause.Expected Expected.Prefix)) }
 {
     let mut prefix = Vec::new(alloc);
     let mut rest = pattern;
@@ -252,7 +252,7 @@ fn pattern_prefix(
     if is_percent(rest) {
         Ok(prefix)
     } else {
-        Err(Fault::At(left, Cause::Expected(Expected::Prefix)))
+        Err(TokenError::At(left, Cause::Expected(Expected::Prefix)))
     }
 }
 
@@ -303,14 +303,14 @@ fn text_prefix(
     column: Found<'_>,
     bytes: Vec<u8>,
     left: usize,
-) -> Result<Filter, Fault>
+) -> Result<Filter, TokenError>
     ensures read { Gives (λ f. formula f) result
         (text_prefix column.entry.place (type_of column.entry.dtype.now) bytes.items)
-        (Fault.At left (text_cause (type_of column.entry.dtype.now) bytes.items)) }
+        (TokenError.At left (text_cause (type_of column.entry.dtype.now) bytes.items)) }
     ensures valid { IfOk result (λ f. AreValid (literals_of f)) }
 {
     let Ok(text) = str::from_utf8(bytes.as_slice()) else {
-        return Err(Fault::At(left, Cause::Expected(Expected::Prefix)));
+        return Err(TokenError::At(left, Cause::Expected(Expected::Prefix)));
     };
     let literal = position_in(alloc, column.dtype, Literal::Text(text), left)?;
     prefix(column.place, literal, left)

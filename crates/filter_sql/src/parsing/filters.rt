@@ -1,7 +1,7 @@
 //! Filters with connectives.
 
 ghost use Rattle.std.specs.Prelude.{◌≡◌, suc, IfOk, MatchResult};
-ghost use Rattle.filter_sql.specs.Columns.{column_trees};
+ghost use Rattle.filter_sql.specs.ColumnNames.{column_trees};
 ghost use Rattle.vortex_filter.specs.FilterLiterals.{AreValid, literals_of};
 ghost use Rattle.vortex_filter.specs.Formula.{formula};
 ghost use Rattle.filter_sql.specs.Tokens.{trees};
@@ -10,7 +10,7 @@ ghost use Rattle.filter_sql.specs.Reading.{conjunction_of, disjunction_of, filte
 
 use crate::column::Column;
 use crate::error::Expected;
-use crate::parsing::fault::{Cause, Fault};
+use crate::parsing::errors::{Cause, TokenError};
 use crate::parsing::predicates::boxed_predicate;
 use crate::parsing::tokens::{after_closing, after_keyword, after_opening, expected, tokens_left};
 use crate::token::{Keyword, Placed};
@@ -18,19 +18,19 @@ use std::alloc::Global;
 use vortex_filter::{Filter, both, either, negation};
 
 /// A filter on the heap.
-fn boxed(alloc: Global, filter: Filter) -> Result<Box<Filter>, Fault>
-    ensures { MatchResult result (λ f. f.value ≡ filter) (λ e. e ≡ Fault.NoMemory) }
+fn boxed(alloc: Global, filter: Filter) -> Result<Box<Filter>, TokenError>
+    ensures { MatchResult result (λ f. f.value ≡ filter) (λ e. e ≡ TokenError.NoMemory) }
 {
     Ok(Box::new(alloc, filter)?)
 }
 
 /// How deep what comes next may nest.
-fn deeper(rest: &[Placed], depth: usize) -> Result<usize, Fault>
+fn deeper(rest: &[Placed], depth: usize) -> Result<usize, TokenError>
     ensures { MatchResult result (λ d. depth ≡ suc d)
         (λ e. (depth ≡ 0) × (e ≡ too_deep (trees rest.now))) }
 {
     match depth {
-        0 => Err(Fault::At(tokens_left(rest), Cause::TooDeep)),
+        0 => Err(TokenError::At(tokens_left(rest), Cause::TooDeep)),
         _ => Ok(depth - 1),
     }
 }
@@ -43,7 +43,7 @@ pub(crate) fn disjunction<'a>(
     columns: &[Column],
     rest: &'a [Placed],
     depth: usize,
-) -> Result<(Box<Filter>, &'a [Placed]), Fault>
+) -> Result<(Box<Filter>, &'a [Placed]), TokenError>
     ensures read { Gives (λ x. (formula x.0.value, trees x.1.now)) result
         (disjunction_of (predicate_at (column_trees columns.now))
         (reads (predicate_at (column_trees columns.now)) depth) (trees rest.now))
@@ -71,7 +71,7 @@ fn conjunction<'a>(
     columns: &[Column],
     rest: &'a [Placed],
     depth: usize,
-) -> Result<(Box<Filter>, &'a [Placed]), Fault>
+) -> Result<(Box<Filter>, &'a [Placed]), TokenError>
     ensures read { Gives (λ x. (formula x.0.value, trees x.1.now)) result
         (conjunction_of (predicate_at (column_trees columns.now))
         (reads (predicate_at (column_trees columns.now)) depth) (trees rest.now))
@@ -99,7 +99,7 @@ fn operand<'a>(
     columns: &[Column],
     rest: &'a [Placed],
     depth: usize,
-) -> Result<(Box<Filter>, &'a [Placed]), Fault>
+) -> Result<(Box<Filter>, &'a [Placed]), TokenError>
     ensures read { Gives (λ x. (formula x.0.value, trees x.1.now)) result
         (operand_of (predicate_at (column_trees columns.now))
         (reads (predicate_at (column_trees columns.now)) depth) (trees rest.now))
@@ -133,7 +133,7 @@ pub(crate) fn filter_of(
     columns: &[Column],
     tokens: &[Placed],
     depth: usize,
-) -> Result<Filter, Fault>
+) -> Result<Filter, TokenError>
     ensures read { Gives formula result (filter_at (column_trees columns.now) depth (trees tokens.now))
         (filter_mistake (column_trees columns.now) depth (trees tokens.now)) }
     ensures valid { IfOk result (λ filter. AreValid (literals_of filter)) }

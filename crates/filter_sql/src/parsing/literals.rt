@@ -13,7 +13,7 @@ ghost use Rattle.filter_sql.specs.Mistakes.{Gives, literal_cause, literal_mistak
 ghost use Rattle.filter_sql.specs.Reading.{position_at, token_position};
 
 use crate::error::Expected;
-use crate::parsing::fault::{Cause, Fault};
+use crate::parsing::errors::{Cause, TokenError};
 use crate::parsing::tokens::{expected, tokens_left};
 use crate::token::{Keyword, Placed, Token};
 use std::alloc::Global;
@@ -26,7 +26,7 @@ pub(crate) fn position_at<'a>(
     alloc: Global,
     dtype: &DType,
     rest: &'a [Placed],
-) -> Result<(Position, &'a [Placed]), Fault>
+) -> Result<(Position, &'a [Placed]), TokenError>
     ensures read { Gives (λ x. (position_tree x.0, trees x.1.now)) result
         (position_at (type_of dtype.now) (trees rest.now))
         (literal_mistake (type_of dtype.now) (trees rest.now)) }
@@ -46,15 +46,15 @@ fn token_position(
     dtype: &DType,
     token: &Token,
     left: usize,
-) -> Result<Position, Fault>
+) -> Result<Position, TokenError>
     ensures read { Gives position_tree result
         (token_position (type_of dtype.now) (token_tree token.now))
-        (Fault.At left (literal_cause (type_of dtype.now) (token_tree token.now))) }
+        (TokenError.At left (literal_cause (type_of dtype.now) (token_tree token.now))) }
     ensures valid { IfOk result (λ p. AreValid (scalars_of p)) }
 {
     match literal_of(token) {
         Some(literal) => position_in(alloc, dtype, literal, left),
-        None => Err(Fault::At(left, Cause::Expected(Expected::Literal))),
+        None => Err(TokenError::At(left, Cause::Expected(Expected::Literal))),
     }
 }
 
@@ -64,16 +64,16 @@ pub(crate) fn position_in(
     dtype: &DType,
     literal: Literal<'_>,
     left: usize,
-) -> Result<Position, Fault>
+) -> Result<Position, TokenError>
     ensures read { Gives position_tree result
         (position_of (type_of dtype.now) (literal_tree literal.entry))
-        (Fault.At left (other_type (type_of dtype.now))) }
+        (TokenError.At left (other_type (type_of dtype.now))) }
     ensures valid { IfOk result (λ p. AreValid (scalars_of p)) }
 {
     match literal.position(alloc, dtype) {
         Ok(Some(position)) => Ok(position),
-        Ok(None) => Err(Fault::At(left, other_type(dtype))),
-        Err(_) => Err(Fault::NoMemory),
+        Ok(None) => Err(TokenError::At(left, other_type(dtype))),
+        Err(_) => Err(TokenError::NoMemory),
     }
 }
 
@@ -130,13 +130,13 @@ fn other_type(dtype: &DType) -> Cause
 }
 
 /// Whether the column begins with the literal, where so many tokens are left.
-pub(crate) fn prefix(column: usize, literal: Position, left: usize) -> Result<Filter, Fault>
+pub(crate) fn prefix(column: usize, literal: Position, left: usize) -> Result<Filter, TokenError>
     ensures read { Gives formula result (prefix_of column (position_tree literal))
-        (Fault.At left (Cause.Expected Expected.Prefix)) }
+        (TokenError.At left (Cause.Expected Expected.Prefix)) }
     ensures literals { IfOk result (λ f. literals_of f ≡ scalars_of literal) }
 {
     match prefix_of(column, literal) {
         Some(filter) => Ok(filter),
-        None => Err(Fault::At(left, Cause::Expected(Expected::Prefix))),
+        None => Err(TokenError::At(left, Cause::Expected(Expected::Prefix))),
     }
 }

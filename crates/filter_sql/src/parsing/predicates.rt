@@ -2,7 +2,7 @@
 
 ghost use Rattle.std.specs.Prelude.{◌≡◌, IfOk};
 ghost use Rattle.vortex_dtype.specs.TypeOf.{type_of};
-ghost use Rattle.filter_sql.specs.Columns.{column_trees};
+ghost use Rattle.filter_sql.specs.ColumnNames.{column_trees};
 ghost use Rattle.vortex_filter.specs.FilterLiterals.{AreValid, literals_of};
 ghost use Rattle.vortex_filter.specs.CheckSteps.{holds_strings};
 ghost use Rattle.vortex_filter.specs.Positions.{position_tree, scalars_of};
@@ -13,9 +13,9 @@ ghost use Rattle.filter_sql.specs.Reading.{constant_at, predicate_at, prefix_cal
 
 use crate::column::Column;
 use crate::error::Expected;
-use crate::parsing::columns::{Found, expect_column};
+use crate::parsing::column_names::{Found, expect_column};
 use crate::parsing::conditions::condition;
-use crate::parsing::fault::{Cause, Fault};
+use crate::parsing::errors::{Cause, TokenError};
 use crate::parsing::literals::{position_at, prefix};
 use crate::parsing::tokens::{
     after_keyword, expect_closing, expect_comma, expect_name, expect_opening, expected, name_at,
@@ -34,7 +34,7 @@ pub(crate) fn boxed_predicate<'a>(
     alloc: Global,
     columns: &[Column],
     rest: &'a [Placed],
-) -> Result<(Box<Filter>, &'a [Placed]), Fault>
+) -> Result<(Box<Filter>, &'a [Placed]), TokenError>
     ensures read { Gives (λ x. (formula x.0.value, trees x.1.now)) result
         (predicate_at (column_trees columns.now) (trees rest.now))
         (predicate_mistake (column_trees columns.now) (trees rest.now)) }
@@ -50,7 +50,7 @@ fn predicate<'a>(
     alloc: Global,
     columns: &[Column],
     rest: &'a [Placed],
-) -> Result<(Filter, &'a [Placed]), Fault>
+) -> Result<(Filter, &'a [Placed]), TokenError>
     ensures read { Gives (λ x. (formula x.0, trees x.1.now)) result
         (predicate_at (column_trees columns.now) (trees rest.now))
         (predicate_mistake (column_trees columns.now) (trees rest.now)) }
@@ -72,7 +72,7 @@ fn prefix_call<'a>(
     alloc: Global,
     columns: &[Column],
     rest: &'a [Placed],
-) -> Result<(Filter, &'a [Placed]), Fault>
+) -> Result<(Filter, &'a [Placed]), TokenError>
     ensures read { Gives (λ x. (formula x.0, trees x.1.now)) result
         (prefix_call_at (column_trees columns.now) (trees rest.now))
         (prefix_call_mistake (column_trees columns.now) (trees rest.now)) }
@@ -89,17 +89,17 @@ fn prefix_call<'a>(
 
 /// Whether the column begins with the literal, where so many tokens are left.
 #[tactic(auto, unfolding(crate::specs::Reading::prefix_in))]
-fn prefix_in(column: Found<'_>, literal: Position, left: usize) -> Result<Filter, Fault>
+fn prefix_in(column: Found<'_>, literal: Position, left: usize) -> Result<Filter, TokenError>
     ensures read { Gives formula result
         (prefix_in (column.entry.place, type_of column.entry.dtype.now) (position_tree literal))
-        (Fault.At left (prefix_cause (type_of column.entry.dtype.now))) }
+        (TokenError.At left (prefix_cause (type_of column.entry.dtype.now))) }
     ensures literals { IfOk result (λ f. literals_of f ≡ scalars_of literal) }
 {
     if holds_strings(column.dtype) {
         return prefix(column.place, literal, left);
     }
     drop(literal);
-    Err(Fault::At(left, Cause::TypesDiffer))
+    Err(TokenError::At(left, Cause::TypesDiffer))
 }
 
 /// Whether values of the type can begin with a prefix.
@@ -111,7 +111,7 @@ fn holds_strings(dtype: &DType) -> bool
 
 /// `true`, `false` or `null`.
 #[tactic(auto, unfolding(crate::specs::Reading::constant_at), using(vortex_filter::proofs::Steps::shown, vortex_filter::proofs::LiteralSteps::valid))]
-fn constant_at(rest: &[Placed]) -> Result<(Filter, &[Placed]), Fault>
+fn constant_at(rest: &[Placed]) -> Result<(Filter, &[Placed]), TokenError>
     ensures read { Gives (λ x. (formula x.0, trees x.1.now)) result
         (constant_at (trees rest.now)) (expected (trees rest.now) Expected.Filter) }
     ensures valid { IfOk result (λ x. AreValid (literals_of x.0)) }

@@ -8,7 +8,7 @@ ghost use Rattle.filter_sql.specs.Mistakes.{Gives, expected};
 ghost use Rattle.filter_sql.specs.Reading.{after_closing, after_comma, after_keyword, after_opening, is_keyword, name_at, operator_at, string_at};
 
 use crate::error::Expected;
-use crate::parsing::fault::{Cause, Fault};
+use crate::parsing::errors::{Cause, TokenError};
 use crate::token::{Keyword, Placed, Token};
 use vortex_filter::CompareOperator;
 
@@ -21,10 +21,10 @@ pub(crate) fn tokens_left(rest: &[Placed]) -> usize
 }
 
 /// The fault that something else had to come next.
-pub(crate) fn expected(rest: &[Placed], what: Expected) -> Fault
+pub(crate) fn expected(rest: &[Placed], what: Expected) -> TokenError
     ensures { result ≡ expected (trees rest.now) what }
 {
-    Fault::At(tokens_left(rest), Cause::Expected(what))
+    TokenError::At(tokens_left(rest), Cause::Expected(what))
 }
 
 /// Whether the token is this keyword.
@@ -137,7 +137,7 @@ pub(crate) fn expect_keyword(
     rest: &[Placed],
     keyword: Keyword,
     what: Expected,
-) -> Result<&[Placed], Fault>
+) -> Result<&[Placed], TokenError>
     ensures { Gives (λ r. trees r.now) result (after_keyword keyword (trees rest.now))
         (expected (trees rest.now) what) }
 {
@@ -148,7 +148,7 @@ pub(crate) fn expect_keyword(
 }
 
 /// What follows an opening parenthesis, which has to come next.
-pub(crate) fn expect_opening(rest: &[Placed]) -> Result<&[Placed], Fault>
+pub(crate) fn expect_opening(rest: &[Placed]) -> Result<&[Placed], TokenError>
     ensures { Gives (λ r. trees r.now) result (after_opening (trees rest.now))
         (expected (trees rest.now) Expected.Opening) }
 {
@@ -159,7 +159,7 @@ pub(crate) fn expect_opening(rest: &[Placed]) -> Result<&[Placed], Fault>
 }
 
 /// What follows a closing parenthesis, which has to come next.
-pub(crate) fn expect_closing(rest: &[Placed]) -> Result<&[Placed], Fault>
+pub(crate) fn expect_closing(rest: &[Placed]) -> Result<&[Placed], TokenError>
     ensures { Gives (λ r. trees r.now) result (after_closing (trees rest.now))
         (expected (trees rest.now) Expected.Closing) }
 {
@@ -170,7 +170,7 @@ pub(crate) fn expect_closing(rest: &[Placed]) -> Result<&[Placed], Fault>
 }
 
 /// What follows a comma, which has to come next.
-pub(crate) fn expect_comma(rest: &[Placed]) -> Result<&[Placed], Fault>
+pub(crate) fn expect_comma(rest: &[Placed]) -> Result<&[Placed], TokenError>
     ensures { Gives (λ r. trees r.now) result (after_comma (trees rest.now))
         (expected (trees rest.now) Expected.Comma) }
 {
@@ -181,7 +181,10 @@ pub(crate) fn expect_comma(rest: &[Placed]) -> Result<&[Placed], Fault>
 }
 
 /// The string that has to come next, and what follows it.
-pub(crate) fn expect_string(rest: &[Placed], what: Expected) -> Result<(&str, &[Placed]), Fault>
+pub(crate) fn expect_string(
+    rest: &[Placed],
+    what: Expected,
+) -> Result<(&str, &[Placed]), TokenError>
     ensures { Gives (λ x. (x.0.now, trees x.1.now)) result (string_at (trees rest.now))
         (expected (trees rest.now) what) }
 {
@@ -192,7 +195,7 @@ pub(crate) fn expect_string(rest: &[Placed], what: Expected) -> Result<(&str, &[
 }
 
 /// The name that has to come next, and what follows it.
-pub(crate) fn expect_name(rest: &[Placed]) -> Result<(&str, &[Placed]), Fault>
+pub(crate) fn expect_name(rest: &[Placed]) -> Result<(&str, &[Placed]), TokenError>
     ensures { Gives (λ x. (x.0.now, trees x.1.now)) result (name_at (trees rest.now))
         (expected (trees rest.now) Expected.Column) }
 {

@@ -4,7 +4,7 @@ use Rattle.std.proofs.lemmas.List.{at_drop_all}
 use Rattle.vortex_value.specs.Size.{capped}
 use Rattle.column_keys.specs.Keys.{keys_length}
 use Rattle.column_keys.specs.Tables.{options_of, table_of}
-use Rattle.column_keys.specs.declared.columns.KeyColumn.{KeyColumn}
+use Rattle.column_keys.specs.declared.key_columns.KeyColumn.{KeyColumn}
 use Rattle.column_keys.proofs.RowSteps.{lengths-at, lengths-none, row-counted}
 use Rattle.column_keys.proofs.table.row_keys_length.Goals as goal
 

@@ -2,7 +2,7 @@
 use Rattle.std.proofs.Common.{◌≡◌, Some}
 use Rattle.vortex_filter.specs.FilterLiterals.{AreValid, literals_of}
 use Rattle.vortex_filter.specs.Formula.{formula}
-use Rattle.filter_sql.specs.Columns.{column_trees}
+use Rattle.filter_sql.specs.ColumnNames.{column_trees}
 use Rattle.filter_sql.specs.Mistakes.{filter_mistake}
 use Rattle.filter_sql.specs.Reading.{filter_at}
 use Rattle.filter_sql.specs.Texts.{items}

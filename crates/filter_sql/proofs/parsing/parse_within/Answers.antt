@@ -1,6 +1,6 @@
 -- What the lexer gives and what is read of its tokens, together.
 use Rattle.std.proofs.lemmas.Result.{err_from_is_err_and}
-use Rattle.filter_sql.specs.Columns.{column_trees}
+use Rattle.filter_sql.specs.ColumnNames.{column_trees}
 use Rattle.filter_sql.specs.Printing.{tokens_of}
 use Rattle.filter_sql.proofs.ParseSteps.{result_fits, result_is_sql, result_placed, result_refuses, result_reads_back}
 use Rattle.filter_sql.proofs.PrintLaws.{text_tokens}

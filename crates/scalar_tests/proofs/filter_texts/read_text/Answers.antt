@@ -1,6 +1,6 @@
 -- What is read of a text is the filter that it is, and nothing else is refused but for want of memory.
 use Rattle.std.proofs.Common.{◌≡◌, ℕ, List, Result, Ok, Err, IfErr, IfOk, refl}
-use Rattle.filter_sql.specs.Columns.{ColumnTree, column_trees}
+use Rattle.filter_sql.specs.ColumnNames.{ColumnTree, column_trees}
 use Rattle.filter_sql.specs.Parsing.{IsSql, ReadsAs, RefusesSql, nesting}
 use Rattle.filter_sql.specs.TextLaws.{RefusedTextsSayNone, TextsSayOneFilter}
 use Rattle.filter_sql.specs.declared.error.ParseError.{ParseError}

@@ -1,6 +1,6 @@
 -- The filter over the columns by name and type, or why there is none.
 use Rattle.std.proofs.Common.{◌∙◌, ap}
-use Rattle.filter_sql.specs.Columns.{column_trees}
+use Rattle.filter_sql.specs.ColumnNames.{column_trees}
 use Rattle.vortex_c.specs.FilterSql.{trees_of_kinds}
 use Rattle.vortex_c.proofs.SqlSteps.{memory-text, text-along, words-read}
 use Rattle.vortex_c.proofs.sql.filter_of.Goals as goal

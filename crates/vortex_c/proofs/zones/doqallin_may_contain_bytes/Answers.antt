@@ -1,4 +1,4 @@
-use Rattle.vortex_c.specs.Columns.{some_where}
+use Rattle.vortex_c.specs.ColumnBounds.{some_where}
 use Rattle.vortex_c.proofs.ZoneAnswers.{answers_of_bytes}
 use Rattle.vortex_c.proofs.zones.doqallin_may_contain_bytes.Goals as goal
 

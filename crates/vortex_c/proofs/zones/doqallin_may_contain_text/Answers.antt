@@ -1,4 +1,4 @@
-use Rattle.vortex_c.specs.Columns.{some_where}
+use Rattle.vortex_c.specs.ColumnBounds.{some_where}
 use Rattle.vortex_c.proofs.ZoneAnswers.{answers_of_texts}
 use Rattle.vortex_c.proofs.zones.doqallin_may_contain_text.Goals as goal
 

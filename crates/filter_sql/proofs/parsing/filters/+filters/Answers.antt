@@ -3,7 +3,7 @@ use Rattle.std.proofs.Common.{ap, ◌∙◌}
 use Rattle.std.proofs.lemmas.Result.{err_from_is_err_and}
 use Rattle.vortex_filter.specs.Formula.{formula}
 use Rattle.filter_sql.specs.Tokens.{trees}
-use Rattle.filter_sql.specs.Columns.{column_trees}
+use Rattle.filter_sql.specs.ColumnNames.{column_trees}
 use Rattle.filter_sql.specs.Mistakes.{predicate_mistake}
 use Rattle.filter_sql.specs.Reading.{predicate_at}
 use Rattle.filter_sql.proofs.ReadSteps.{or_left_fails, or_alone, or_too_deep, or_right_fails, or_joined, and_left_fails, and_alone, and_too_deep, and_right_fails, and_joined, not_too_deep, not_fails, negated_is, group_too_deep, group_fails, not_closed, group_is, predicate_is}

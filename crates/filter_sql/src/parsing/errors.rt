@@ -1,7 +1,7 @@
-//! Why nothing was read.
+//! What is wrong with a text, by its tokens.
 
 ghost use Rattle.std.specs.Prelude.{◌≡◌};
-ghost use Rattle.filter_sql.specs.declared.parsing.fault.Fault.TheVariants.{NoMemory};
+ghost use Rattle.filter_sql.specs.declared.parsing.errors.TokenError.TheVariants.{NoMemory};
 
 use crate::error::Expected;
 use std::alloc::{AllocError, AllocFailed};
@@ -22,9 +22,9 @@ pub(crate) enum Cause {
     TooDeep,
 }
 
-/// Why nothing was read.
+/// Why nothing was read of the tokens: no memory, or what is wrong at which of them.
 #[derive(Clone, Copy, Debug)]
-pub(crate) enum Fault {
+pub(crate) enum TokenError {
     /// An allocation was refused.
     NoMemory,
     /// Where so many tokens were left.
@@ -32,28 +32,28 @@ pub(crate) enum Fault {
 }
 
 /// Always `NoMemory`.
-impl From<AllocError> for Fault {
+impl From<AllocError> for TokenError {
     ghost from_gives = { λ _ e. e ≡ NoMemory };
 
-    fn from(_error: AllocError) -> Fault {
-        Fault::NoMemory
+    fn from(_error: AllocError) -> TokenError {
+        TokenError::NoMemory
     }
 }
 
 /// Always `NoMemory`. The value that could not be stored is dropped.
-impl<T: Drop> From<AllocFailed<T>> for Fault {
+impl<T: Drop> From<AllocFailed<T>> for TokenError {
     ghost from_gives = { λ _ e. e ≡ NoMemory };
 
-    fn from(_error: AllocFailed<T>) -> Fault {
-        Fault::NoMemory
+    fn from(_error: AllocFailed<T>) -> TokenError {
+        TokenError::NoMemory
     }
 }
 
 /// Always `NoMemory`: what the parser makes is refused for no other cause.
-impl From<FilterError> for Fault {
+impl From<FilterError> for TokenError {
     ghost from_gives = { λ _ e. e ≡ NoMemory };
 
-    fn from(_error: FilterError) -> Fault {
-        Fault::NoMemory
+    fn from(_error: FilterError) -> TokenError {
+        TokenError::NoMemory
     }
 }

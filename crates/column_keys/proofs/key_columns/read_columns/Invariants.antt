@@ -3,7 +3,7 @@ use Rattle.std.proofs.Common.{◌≡◌, length}
 use Rattle.std.specs.Vec.{vec_capacity, vec_len}
 use Rattle.std.proofs.Common.{◌≤◌}
 use Rattle.column_keys.specs.Tables.{AreReadFrom, AreSoundBefore}
-use Rattle.column_keys.proofs.columns.read_columns.Given as goal
+use Rattle.column_keys.proofs.key_columns.read_columns.Given as goal
 
 abbrev pub invariant-loop-place : goal.invariant-loop-place
 invariant-loop-place l =

@@ -1,8 +1,8 @@
 use Rattle.std.proofs.Common.{◌≡◌, ◌<◌, ℕ}
 use Rattle.arrow_columns.specs.Spans.{IsSpan}
 use Rattle.vortex_bounds.specs.Strings.{NotAbove}
-use Rattle.vortex_c.specs.Columns.{value_at}
-use Rattle.vortex_c.proofs.columns.find_extremes.Given as goal
+use Rattle.vortex_c.specs.ColumnBounds.{value_at}
+use Rattle.vortex_c.proofs.column_bounds.find_extremes.Given as goal
 
 -- the places are those of the least and of the greatest of the first k values
 abbrev pub invariant-loop-k : goal.invariant-loop-k

@@ -1,9 +1,9 @@
 use Rattle.std.proofs.Common.{◌∙◌, ◌<◌, List, ap, arith, refl, subst, sym, ℕ}
 use Rattle.arrow_columns.proofs.ByteOrder.{downward, upward}
 use Rattle.vortex_bounds.specs.Strings.{NotAbove}
-use Rattle.vortex_c.specs.Columns.{value_at}
+use Rattle.vortex_c.specs.ColumnBounds.{value_at}
 use Rattle.vortex_c.proofs.ColumnOrder.{best_so_far, only_value, only_value_back}
-use Rattle.vortex_c.proofs.columns.find_extremes.Goals as goal
+use Rattle.vortex_c.proofs.column_bounds.find_extremes.Goals as goal
 
 pub loop-k-init : goal.loop-k-init
 loop-k-init c =

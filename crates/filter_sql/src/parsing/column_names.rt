@@ -8,10 +8,10 @@ ghost use Rattle.std.specs.String.{string_bytes};
 ghost use Rattle.vortex_dtype.specs.TypeOf.{type_of};
 ghost use Rattle.filter_sql.specs.declared.column.Column.{Column};
 ghost use Rattle.filter_sql.specs.Mistakes.{Gives};
-ghost use Rattle.filter_sql.specs.Columns.{column_named, column_trees, digits_number, named_place, numbered_place, or_numbered, typed_place};
+ghost use Rattle.filter_sql.specs.ColumnNames.{column_named, column_trees, digits_number, named_place, numbered_place, or_numbered, typed_place};
 
 use crate::column::Column;
-use crate::parsing::fault::{Cause, Fault};
+use crate::parsing::errors::{Cause, TokenError};
 use vortex_dtype::DType;
 
 /// A column: its place, and its type.
@@ -22,7 +22,7 @@ pub(crate) struct Found<'a> {
 }
 
 /// The first column with this name; if there is none, `$1` is the first column, and so on.
-#[tactic(auto, unfolding(crate::specs::Columns::column_named))]
+#[tactic(auto, unfolding(crate::specs::ColumnNames::column_named))]
 fn column_named<'a>(columns: &'a [Column], name: &str) -> Option<Found<'a>>
     ensures { option_map (λ x. (x.place, type_of x.dtype.now)) result
         ≡ column_named (column_trees columns.now) name.now }
@@ -49,13 +49,13 @@ pub(crate) fn expect_column<'a>(
     columns: &'a [Column],
     name: &str,
     left: usize,
-) -> Result<Found<'a>, Fault>
+) -> Result<Found<'a>, TokenError>
     ensures { Gives (λ x. (x.place, type_of x.dtype.now)) result
-        (column_named (column_trees columns.now) name.now) (Fault.At left Cause.NoColumn) }
+        (column_named (column_trees columns.now) name.now) (TokenError.At left Cause.NoColumn) }
 {
     match column_named(columns, name) {
         Some(column) => Ok(column),
-        None => Err(Fault::At(left, Cause::NoColumn)),
+        None => Err(TokenError::At(left, Cause::NoColumn)),
     }
 }
 
@@ -80,7 +80,7 @@ fn first_named(columns: &[Column], name: &str) -> Option<usize>
 }
 
 /// The place that `$1`, `$2` and so on stand for.
-#[tactic(auto, unfolding(crate::specs::Columns::numbered_place))]
+#[tactic(auto, unfolding(crate::specs::ColumnNames::numbered_place))]
 fn numbered_place(name: &str) -> Option<usize>
     ensures { result ≡ numbered_place name.now }
 {

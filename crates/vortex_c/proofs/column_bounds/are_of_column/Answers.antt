@@ -2,8 +2,8 @@ use Rattle.std.proofs.Common.{◌≡◌, ◌-◌, ◌+◌, ℕ, Bool, true, fals
 use Rattle.std.specs.List.Sorted.{IsNonDecreasing}
 use Rattle.std.proofs.lemmas.Bool.{leb-false, leb-true}
 use Rattle.std.proofs.lemmas.List.Sorted.{non_decreasing_from_is_sorted}
-use Rattle.vortex_c.specs.Columns.{HasValue, IsColumn}
-use Rattle.vortex_c.proofs.columns.are_of_column.Goals as goal
+use Rattle.vortex_c.specs.ColumnBounds.{HasValue, IsColumn}
+use Rattle.vortex_c.proofs.column_bounds.are_of_column.Goals as goal
 use lib.Dec.{leb}
 
 -- sorted offsets are those of a column exactly if the last one is not past the end

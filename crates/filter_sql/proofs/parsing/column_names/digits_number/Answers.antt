@@ -1,6 +1,6 @@
 -- What parses is digits, but for a plus sign.
 use Rattle.filter_sql.proofs.ColumnSteps.{plus_is_none, number_is}
-use Rattle.filter_sql.proofs.parsing.columns.digits_number.Goals as goal
+use Rattle.filter_sql.proofs.parsing.column_names.digits_number.Goals as goal
 
 pub returns-then-has_plus : goal.returns-then-has_plus
 returns-then-has_plus c = plus_is_none c.args.digits.now (rw c.has_plus.ensures at c.if-has_plus.true)

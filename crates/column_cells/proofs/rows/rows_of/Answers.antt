@@ -3,7 +3,7 @@ use Rattle.std.proofs.Common.{◌≡◌}
 use Rattle.column_cells.specs.Contents.{HasTexts, contents_of_column, contents_of_rows}
 use Rattle.column_cells.specs.Types.{type_of_column, type_of_rows}
 use Rattle.column_cells.proofs.ContentLaws.{ok_all, same_contents, same_type, texts_of}
-use Rattle.column_cells.proofs.columns.rows_of.Goals as goal
+use Rattle.column_cells.proofs.rows.rows_of.Goals as goal
 
 pub returns-clause-typed : goal.returns-clause-typed
 returns-clause-typed c = ok_all c.check.result (AreRowsOf c.args.column) (λ rows. type_of_rows rows ≡ type_of_column c.args.column) (same_type c.args.column) c.check.ensures.rows

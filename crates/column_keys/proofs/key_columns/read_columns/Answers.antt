@@ -2,7 +2,7 @@
 use Rattle.std.proofs.Common.{arith}
 use Rattle.column_keys.proofs.ColumnSteps.{read-more, sound-more, table-fault, table-refused}
 use Rattle.column_keys.specs.declared.errors.TableError.TheVariants.{OutOfMemory}
-use Rattle.column_keys.proofs.columns.read_columns.Goals as goal
+use Rattle.column_keys.proofs.key_columns.read_columns.Goals as goal
 
 pub returns-in_err-table-clause-fault : goal.returns-in_err-table-clause-fault
 returns-in_err-table-clause-fault c = table-refused c.args.columns.now c.args.options.now _ OutOfMemory c.from_residual.ensures (omega (arith, c.if-options-columns.false))

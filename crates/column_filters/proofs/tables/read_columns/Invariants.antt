@@ -3,7 +3,7 @@ use Rattle.std.proofs.Common.{◌≡◌, ◌≤◌, length, map}
 use Rattle.std.specs.Vec.{vec_capacity, vec_len}
 use Rattle.vortex_dtype.specs.TypeOf.{type_of}
 use Rattle.column_filters.specs.Tables.{AreReadFrom, AreSoundBefore}
-use Rattle.column_filters.proofs.columns.read_columns.Given as goal
+use Rattle.column_filters.proofs.tables.read_columns.Given as goal
 
 abbrev pub invariant-loop-place : goal.invariant-loop-place
 invariant-loop-place l =

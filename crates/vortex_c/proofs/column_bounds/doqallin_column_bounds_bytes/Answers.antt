@@ -2,7 +2,7 @@ use Rattle.std.proofs.Common.{◌≡◌, arith, inl, length, refl, take}
 use Rattle.std.proofs.lemmas.List.{length-take}
 use Rattle.vortex_bounds.specs.Strings.{HasNoUpper, IsLower, IsUpper}
 use Rattle.vortex_c.proofs.ColumnBounds.{stopped, written}
-use Rattle.vortex_c.proofs.columns.doqallin_column_bounds_bytes.Goals as goal
+use Rattle.vortex_c.proofs.column_bounds.doqallin_column_bounds_bytes.Goals as goal
 
 pub returns-in-Ok-upper_of_bytes-clause-answer : goal.returns-in-Ok-upper_of_bytes-clause-answer
 returns-in-Ok-upper_of_bytes-clause-answer c =

@@ -6,7 +6,7 @@ use Rattle.vortex_c.specs.Uppers.{bytes_of}
 use Rattle.vortex_c.proofs.ColumnBounds.{bytes_are_text, stopped, text_of_some, written}
 use Rattle.vortex_c.proofs.ColumnEnds.{ends_are_text}
 use Rattle.vortex_c.proofs.Truncations.{taken}
-use Rattle.vortex_c.proofs.columns.doqallin_column_bounds_text.Goals as goal
+use Rattle.vortex_c.proofs.column_bounds.doqallin_column_bounds_text.Goals as goal
 
 pub returns-in_default-clause-no_text : goal.returns-in_default-clause-no_text
 returns-in_default-clause-no_text c = λ _. (c.in-Ok.places.least, inl c.in-Ok.ensures.least, c.in_default.ensures)

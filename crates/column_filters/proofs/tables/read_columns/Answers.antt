@@ -4,7 +4,7 @@ use Rattle.std.proofs.lemmas.List.{length-map}
 use Rattle.vortex_dtype.specs.TypeOf.{type_of}
 use Rattle.column_filters.proofs.ColumnSteps.{read-more, read_typed, sound-more, table-fault-typed, table-refused}
 use Rattle.column_filters.specs.declared.errors.MaskError.TheVariants.{OutOfMemory}
-use Rattle.column_filters.proofs.columns.read_columns.Goals as goal
+use Rattle.column_filters.proofs.tables.read_columns.Goals as goal
 
 pub returns-in_err-table-clause-fault : goal.returns-in_err-table-clause-fault
 returns-in_err-table-clause-fault c =
