@@ -189,7 +189,8 @@ fn by_bytes<const N: usize, T: Integer<N>>(
     requires from { from < 8 * first_byte }
     requires items { 8 * end_byte ≤ length items.now }
     requires bits { end_byte ≤ length validity.now }
-    requires gathered { AreGathered T.number (cell_of_item T.kind validity.now items.now) from (8 * first_byte) gathered }
+    requires gathered { AreGathered T.number (cell_of_item T.kind validity.now items.now)
+        from (8 * first_byte) gathered }
     ensures { AreGathered T.number (cell_of_item T.kind validity.now items.now) from (8 * end_byte) result }
 {
     let low = gathered.least;

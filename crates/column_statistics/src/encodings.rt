@@ -2,7 +2,10 @@
 
 ghost use Rattle.std.specs.Prelude.{◌≡◌, IfErr, IfOk, IfSome};
 ghost use Rattle.vortex_statistics.specs.Statistics.{Known};
-ghost use Rattle.column_statistics.specs.Words.{HasBoundsIn, HasNoVariants, IsColumnEncoding, IsEncodingAs, IsEncodingError, IsHeldKnown, IsMergeError, IsMergedEncoding, IsReadError, ReadsRight, fault_of_piece, encoding, known, read_fault, type_of_kind};
+ghost use Rattle.column_statistics.specs.Words.{HasBoundsIn, HasNoVariants, IsColumnEncoding, IsEncodingAs};
+ghost use Rattle.column_statistics.specs.Words.{IsEncodingError, IsHeldKnown, IsMergeError, IsMergedEncoding};
+ghost use Rattle.column_statistics.specs.Words.{IsReadError, ReadsRight, fault_of_piece, encoding, known, read_fault};
+ghost use Rattle.column_statistics.specs.Words.{type_of_kind};
 
 use crate::errors::{ColumnStatisticsError, MergeError, ReadError};
 use crate::statistics::statistics_of;

@@ -1,7 +1,10 @@
 //! The nulls of a column, and the least and the greatest of its values as scalars.
 
 ghost use Rattle.std.specs.Prelude.{Bool, IfErr, IfOk, List, Option};
-ghost use Rattle.column_statistics.specs.Words.{AreBooleanStatisticsOf, AreExtremesAt, AreExtremesOf, ArePlacesOf, AreSummaryOf, AreTruthsOf, HasLong, HasTexts, Nullable, bool_type, boolean_contents, contents_of_rows, integer_contents, integer_type, ptype_of_kind, type_of_rows};
+ghost use Rattle.column_statistics.specs.Words.{AreBooleanStatisticsOf, AreExtremesAt, AreExtremesOf, ArePlacesOf};
+ghost use Rattle.column_statistics.specs.Words.{AreSummaryOf, AreTruthsOf, HasLong, HasTexts, Nullable, bool_type};
+ghost use Rattle.column_statistics.specs.Words.{boolean_contents, contents_of_rows, integer_contents, integer_type};
+ghost use Rattle.column_statistics.specs.Words.{ptype_of_kind, type_of_rows};
 
 use arrow_columns::{
     BooleanRows, BooleanStatistics, ByteExtremes, ByteStatistics, IntegerRows, Rows,

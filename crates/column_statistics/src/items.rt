@@ -1,7 +1,8 @@
 //! The values of columns as bytes.
 
 ghost use Rattle.std.specs.Prelude.{◌≡◌, MatchOption};
-ghost use Rattle.column_statistics.specs.Words.{InRange, Integer, IsCellOf, IsItemOf, bytes_of_item, cell_of, null, ptype_of_kind, scalar_content, type_of_kind, whole};
+ghost use Rattle.column_statistics.specs.Words.{InRange, Integer, IsCellOf, IsItemOf, bytes_of_item, cell_of, null};
+ghost use Rattle.column_statistics.specs.Words.{ptype_of_kind, scalar_content, type_of_kind, whole};
 
 use arrow_columns::{IntegerKind, Kind};
 use vortex_value::Scalar;

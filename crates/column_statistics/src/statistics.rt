@@ -3,7 +3,9 @@
 ghost use Rattle.std.specs.Prelude.{◌≡◌, IfErr, IfOk, List, length, true};
 ghost use Rattle.vortex_dtype.specs.TypeTree.{TypeTree};
 ghost use Rattle.vortex_value.specs.Values.Content.{Content};
-ghost use Rattle.column_statistics.specs.Words.{AreCutStatistics, AreRight, AreSummaryOf, AreWholeOf, HasBoundsIn, HasShortBounds, IsReadable, IsColumnStatisticsError, cells_of_column, known, type_of_column};
+ghost use Rattle.column_statistics.specs.Words.{AreCutStatistics, AreRight, AreSummaryOf, AreWholeOf, HasBoundsIn};
+ghost use Rattle.column_statistics.specs.Words.{HasShortBounds, IsReadable, IsColumnStatisticsError, cells_of_column};
+ghost use Rattle.column_statistics.specs.Words.{known, type_of_column};
 
 use crate::errors::ColumnStatisticsError;
 use crate::extremes::{Summary, summary_of};

@@ -1,6 +1,7 @@
 //! Fields are cut from the front of a record.
 
-ghost use Rattle.std.specs.Prelude.{◌≡◌, ◌≢◌, ◌⊎◌, ◌∷◌, ◌++◌, ◌≤◌, [], ℕ, List, Bool, true, false, IfNone, IfOk, IfSome, drop, length, take, if◌then◌else◌};
+ghost use Rattle.std.specs.Prelude.{◌≡◌, ◌≢◌, ◌⊎◌, ◌∷◌, ◌++◌, ◌≤◌, [], ℕ, List, Bool, true, false, IfNone, IfOk};
+ghost use Rattle.std.specs.Prelude.{IfSome, drop, length, take, if◌then◌else◌};
 ghost use Rattle.csv.specs.declared.parser.State.TheVariants.{AfterQuote, InField, InQuoted, StartField};
 ghost use Rattle.csv_records.specs.Words.{AreBare, BeginsBare, HasNoFront, IsCut, field_rows, rows_of};
 

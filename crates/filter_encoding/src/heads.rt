@@ -2,7 +2,8 @@
 
 ghost use Rattle.std.specs.Prelude.{◌≡◌, ◌≢◌, ◌∷◌, ℕ, List, MatchOption, MatchResult, false, true};
 ghost use Rattle.filter_encoding.specs.declared.heads.Head.{Head};
-ghost use Rattle.filter_encoding.specs.Words.{IsNodeEncoding, IsStuck, MayBegin, head_byte, left, operator_byte, truth_byte};
+ghost use Rattle.filter_encoding.specs.Words.{IsNodeEncoding, IsStuck, MayBegin, head_byte, left, operator_byte};
+ghost use Rattle.filter_encoding.specs.Words.{truth_byte};
 
 use crate::reader::{FilterDecodeError, Reader};
 use vortex_filter::{CompareOperator, Truth};

@@ -1,7 +1,9 @@
 //! A prepared filter from its encoding in bytes.
 
 ghost use Rattle.std.specs.Prelude.{◌≡◌, ◌≢◌, ◌∷◌, ◌⊎◌, ◌<◌, ◌≤◌, ℕ, List, Err, IfErr, IfOk, MatchResult};
-ghost use Rattle.filter_encoding.specs.Words.{AreValid, BadBytes, HasEncoding, IsFirstWrong, IsEncoding, IsNode, OutOfMemory, Prepared, Reads, ReadsAs, ReadsBehind, ReadsBoth, encoding, formula, left, literals_of, node_bytes, operator_byte, prepared};
+ghost use Rattle.filter_encoding.specs.Words.{AreValid, BadBytes, HasEncoding, IsFirstWrong, IsEncoding, IsNode};
+ghost use Rattle.filter_encoding.specs.Words.{OutOfMemory, Prepared, Reads, ReadsAs, ReadsBehind, ReadsBoth, encoding};
+ghost use Rattle.filter_encoding.specs.Words.{formula, left, literals_of, node_bytes, operator_byte, prepared};
 
 use crate::error::FilterEncodingError;
 use crate::heads::{Head, read_head};

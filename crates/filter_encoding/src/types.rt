@@ -2,7 +2,8 @@
 
 ghost use Rattle.std.specs.Prelude.{◌≡◌, ◌+◌, IfSome, MatchOption, map, option_map};
 ghost use Rattle.std.specs.List.{AllByRecursion};
-ghost use Rattle.filter_encoding.specs.Words.{AreListed, AreSo, IsPlain, Reads, Writes, each_bytes, integer_code, left, listed, null_code, plain_at, type_at, type_byte, type_bytes, type_of};
+ghost use Rattle.filter_encoding.specs.Words.{AreListed, AreSo, IsPlain, Reads, Writes, each_bytes, integer_code, left};
+ghost use Rattle.filter_encoding.specs.Words.{listed, null_code, plain_at, type_at, type_byte, type_bytes, type_of};
 
 use crate::error::FilterEncodingError;
 use crate::places::{append_place, read_place};

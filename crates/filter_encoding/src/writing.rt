@@ -1,6 +1,7 @@
 //! The encoding of a prepared filter in bytes, appended.
 
-ghost use Rattle.std.specs.Prelude.{◌≡◌, ◌++◌, ◌+◌, ◌<◌, ◌∷◌, ◌⊎◌, [], ℕ, suc, Err, IfErr, List, MatchResult, OnErr, OnOk, map};
+ghost use Rattle.std.specs.Prelude.{◌≡◌, ◌++◌, ◌+◌, ◌<◌, ◌∷◌, ◌⊎◌, [], ℕ, suc, Err, IfErr, List, MatchResult, OnErr};
+ghost use Rattle.std.specs.Prelude.{OnOk, map};
 ghost use Rattle.filter_encoding.specs.Words.{Appends, AreListed, AreValid, Begins, CanBeWritten, Fits, HasEncoding};
 ghost use Rattle.filter_encoding.specs.Words.{IsHeldCell, IsPlainCell, IsRefused, IsWritten, Nests, NoEncoding};
 ghost use Rattle.filter_encoding.specs.Words.{OutOfMemory, Writes, cell_of, count_bytes, encoding, formula};

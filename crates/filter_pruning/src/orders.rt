@@ -1,7 +1,9 @@
 //! How the values of a zone can stand to a literal.
 
 ghost use Rattle.std.specs.Prelude.{◌≡◌, Some, false, option_map, true};
-ghost use Rattle.filter_pruning.specs.Words.{bound_order, cell_of, cell_order, is_plain, is_plain_bound, known, known_bound, may_fail, may_hold, option_copied, order_from_above, orders, orders_between, rules_out, settles};
+ghost use Rattle.filter_pruning.specs.Words.{bound_order, cell_of, cell_order, is_plain, is_plain_bound, known};
+ghost use Rattle.filter_pruning.specs.Words.{known_bound, may_fail, may_hold, option_copied, order_from_above, orders};
+ghost use Rattle.filter_pruning.specs.Words.{orders_between, rules_out, settles};
 
 use std::cmp::Ordering;
 use vortex_cells::compare_scalars;

@@ -1,7 +1,8 @@
 //! What it can be that the strings or bytes of a zone begin with a prefix.
 
 ghost use Rattle.std.specs.Prelude.{◌≡◌, None, option_map};
-ghost use Rattle.filter_pruning.specs.Words.{bound_prefix_order, cell_of, is_prefix, known, known_bound, never_begins, option_copied, prefix_outcomes, prefix_outcomes_by};
+ghost use Rattle.filter_pruning.specs.Words.{bound_prefix_order, cell_of, is_prefix, known, known_bound, never_begins};
+ghost use Rattle.filter_pruning.specs.Words.{option_copied, prefix_outcomes, prefix_outcomes_by};
 
 use crate::orders::rules_out;
 use crate::outcomes::Outcomes;

@@ -1,7 +1,9 @@
 //! What a filter can be on the rows of a zone, by the zone's statistics.
 
 ghost use Rattle.std.specs.Prelude.{◌≡◌, ◌↔◌, IsTrue, false, map, option_map, slice_get};
-ghost use Rattle.filter_pruning.specs.Words.{Covers, MatchesEachRow, MatchesNoRow, cell_of, compare_outcomes, formula, is_only_true, known, member_outcomes, null_outcomes, only, option_copied, outcomes, range_outcomes, unknown_outcomes, value_outcomes};
+ghost use Rattle.filter_pruning.specs.Words.{Covers, MatchesEachRow, MatchesNoRow, cell_of, compare_outcomes, formula};
+ghost use Rattle.filter_pruning.specs.Words.{is_only_true, known, member_outcomes, null_outcomes, only, option_copied};
+ghost use Rattle.filter_pruning.specs.Words.{outcomes, range_outcomes, unknown_outcomes, value_outcomes};
 
 use crate::orders::Orders;
 use crate::outcomes::Outcomes;

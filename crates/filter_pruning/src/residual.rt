@@ -1,10 +1,13 @@
 //! What is left of a filter on the rows of a zone, by the zone's statistics.
 
-ghost use Rattle.std.specs.Prelude.{◌≡◌, ◌≤◌, ◌&&◌, ◌||◌, Err, IfErr, IfOk, IsOkAnd, List, MatchOption, is_none, is_some, map};
+ghost use Rattle.std.specs.Prelude.{◌≡◌, ◌≤◌, ◌&&◌, ◌||◌, Err, IfErr, IfOk, IsOkAnd, List, MatchOption, is_none};
+ghost use Rattle.std.specs.Prelude.{is_some, map};
 ghost use Rattle.vortex_filter.specs.FilterLiterals.{AreValid, MakesValid, literals_of};
 ghost use Rattle.filter_pruning.specs.Leaves.{LeavesValid, IsResidual, is_made_false, is_made_true, settled};
 ghost use Rattle.vortex_filter.specs.Makes.{MakesUnlessBare, OfParts};
-ghost use Rattle.filter_pruning.specs.Words.{IsBare, OutOfMemory, SameOnRows, both, conjunction, constant, disjunction, either, formula, is_constant, known, negation, only, outcomes, residual, same_truths, size, sole};
+ghost use Rattle.filter_pruning.specs.Words.{IsBare, OutOfMemory, SameOnRows, both, conjunction, constant, disjunction};
+ghost use Rattle.filter_pruning.specs.Words.{either, formula, is_constant, known, negation, only, outcomes, residual};
+ghost use Rattle.filter_pruning.specs.Words.{same_truths, size, sole};
 ghost use Rattle.vortex_statistics.specs.Statistics.{Known};
 ghost use Rattle.vortex_filter.specs.declared.truth.Truth.{Truth};
 

@@ -1,7 +1,13 @@
 //! Filters printed as SQL text.
 
 ghost use Rattle.std.specs.Prelude.{◌≡◌, ◌++◌, ◌∷◌, ◌+◌, ◌<◌, ◌==◌, [], Some, codes, map, if◌then◌else◌};
-ghost use Rattle.filter_sql.specs.Words.{WritesOnOk, decimal, list_any, and_text, cell_of, chars, column_text, comparison_text, constant_keyword, doubled, encode_lower, escape_text, flat_map, formula, group_text, is_special, keyword_text, like_text, literal_text, literals_text, membership_text, names_of, negation, null_test_text, operator_text, or_text, patterned, prefix_pattern, prefix_text, quotable, quoted, range_text, scalar_content, sql_text, starts_with_text, text_at, two_digits};
+ghost use Rattle.filter_sql.specs.Words.{WritesOnOk, decimal, list_any, and_text, cell_of, chars, column_text};
+ghost use Rattle.filter_sql.specs.Words.{comparison_text, constant_keyword, doubled, encode_lower, escape_text};
+ghost use Rattle.filter_sql.specs.Words.{flat_map, formula, group_text, is_special, keyword_text, like_text};
+ghost use Rattle.filter_sql.specs.Words.{literal_text, literals_text, membership_text, names_of, negation};
+ghost use Rattle.filter_sql.specs.Words.{null_test_text, operator_text, or_text, patterned, prefix_pattern};
+ghost use Rattle.filter_sql.specs.Words.{prefix_text, quotable, quoted, range_text, scalar_content, sql_text};
+ghost use Rattle.filter_sql.specs.Words.{starts_with_text, text_at, two_digits};
 
 use crate::column::Column;
 use crate::lex::keyword_text;

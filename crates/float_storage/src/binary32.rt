@@ -3,7 +3,8 @@
 
 ghost use Rattle.std.specs.Prelude.{◌≡◌, ◌↔◌, IsTrue};
 ghost use Rattle.std.specs.Float.{binary32};
-ghost use Rattle.float_storage.specs.Storage.{IsStorage, bits_of_storage, float_of_storage, storage_of, storage_of_bits};
+ghost use Rattle.float_storage.specs.Storage.{IsStorage, bits_of_storage, float_of_storage, storage_of};
+ghost use Rattle.float_storage.specs.Storage.{storage_of_bits};
 
 use std::num::{f32_from_bits_with_nan, f32_to_bits_with_nan};
 

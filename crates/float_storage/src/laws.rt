@@ -5,7 +5,8 @@ ghost use Rattle.std.specs.Prelude.{◌≡◌, ◌≤ℤ◌, IsTrue};
 ghost use Rattle.std.specs.Float.{NotNan, binary32, binary64, ◌≤ᶠ◌};
 ghost use Rattle.std.specs.Ordering.{int_cmp, nan_last_cmp};
 ghost use Rattle.std.specs.declared.cmp.Ordering.TheVariants.{Equal};
-ghost use Rattle.float_storage.specs.Storage.{IsStorage, bits_of_storage, float_of_storage, storage_of, storage_of_bits};
+ghost use Rattle.float_storage.specs.Storage.{IsStorage, bits_of_storage, float_of_storage, storage_of};
+ghost use Rattle.float_storage.specs.Storage.{storage_of_bits};
 ghost use lib.Ieee.{eq, of_bits};
 
 /// Storages have the order of floats, with all NaNs equal and above the numbers.

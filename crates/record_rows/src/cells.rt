@@ -5,7 +5,8 @@ ghost use Rattle.hex.specs.Hex.{decode_of};
 ghost use Rattle.vortex_dtype.specs.declared.nullability.Nullability.TheVariants.{Nullable};
 ghost use Rattle.vortex_value.specs.Values.Content.{null};
 ghost use Rattle.vortex_value.specs.Values.Scalars.{IsValid, scalar_content, scalar_type};
-ghost use Rattle.record_rows.specs.Cells.{HasCell, HasMeaning, HasNoCell, HasNoMeaning, HasNoValue, IsBinaryCell, IsCell, IsIntegerCell, IsTextCell, IsValueCell, column_type, is_null_field};
+ghost use Rattle.record_rows.specs.Cells.{HasCell, HasMeaning, HasNoCell, HasNoMeaning, HasNoValue, IsBinaryCell};
+ghost use Rattle.record_rows.specs.Cells.{IsCell, IsIntegerCell, IsTextCell, IsValueCell, column_type, is_null_field};
 ghost use Rattle.record_rows.specs.Words.{IsIntegerWord};
 
 use crate::ascii::is_text;

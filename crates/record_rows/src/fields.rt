@@ -1,6 +1,7 @@
 //! The fields of a record are walked, each beside its column.
 
-ghost use Rattle.std.specs.Prelude.{◌≡◌, ◌+◌, ◌<◌, ◌≤◌, ℕ, List, [], Bool, IfErr, IfNone, IfOk, IfSome, length, if◌then◌else◌};
+ghost use Rattle.std.specs.Prelude.{◌≡◌, ◌+◌, ◌<◌, ◌≤◌, ℕ, List, [], Bool, IfErr, IfNone, IfOk, IfSome, length};
+ghost use Rattle.std.specs.Prelude.{if◌then◌else◌};
 ghost use Rattle.csv_records.specs.Rows.{Field};
 ghost use Rattle.csv_records.specs.declared.fields.Follows.TheVariants.{Another, Nothing};
 ghost use Rattle.record_rows.specs.Rows.{RefusesFields};

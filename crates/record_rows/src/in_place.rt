@@ -2,7 +2,8 @@
 
 ghost use Rattle.std.specs.Prelude.{◌≡◌, ◌≢◌, ◌⊎◌, Some, IfSome, false, true};
 ghost use Rattle.std.specs.declared.cmp.Ordering.TheVariants.{Equal, Less};
-ghost use Rattle.record_rows.specs.Observed.{IsNumberBound, IsTextBound, IsTextInside, KeepsValid, ObservesWord, RaisesTo, TakesInteger, TakesWord, raw_of_number};
+ghost use Rattle.record_rows.specs.Observed.{IsNumberBound, IsTextBound, IsTextInside, KeepsValid, ObservesWord};
+ghost use Rattle.record_rows.specs.Observed.{RaisesTo, TakesInteger, TakesWord, raw_of_number};
 ghost use Rattle.vortex_dtype.specs.TypeTree.{integer_type};
 ghost use Rattle.vortex_statistics.specs.Statistics.{known, known_bound};
 ghost use Rattle.vortex_value.specs.Values.Scalars.{IsMadeOf, IsValid};

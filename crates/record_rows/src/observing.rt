@@ -2,7 +2,8 @@
 
 ghost use Rattle.std.specs.Prelude.{◌≡◌, [], IfErr, IfOk, MatchOption, OnOk, length};
 ghost use Rattle.csv_records.specs.Rows.{rows_of};
-ghost use Rattle.record_rows.specs.Observed.{AreObserved, IsFull, IsNotObserved, IsObserved, KeepsValid, ObservesField, SomeIsFull};
+ghost use Rattle.record_rows.specs.Observed.{AreObserved, IsFull, IsNotObserved, IsObserved, KeepsValid, ObservesField};
+ghost use Rattle.record_rows.specs.Observed.{SomeIsFull};
 ghost use Rattle.record_rows.specs.Rows.{Refuses, RefusesFields, RefusesWord};
 ghost use Rattle.record_rows.specs.Walks.{field_of};
 ghost use Rattle.vortex_statistics.specs.Statistics.{known};

@@ -2,7 +2,8 @@
 
 ghost use Rattle.std.specs.Prelude.{◌≡◌, ◌∷◌, ◌++◌, ◌+◌, ◌≤◌, [], IfErr, IfOk, MatchOption, OnOk, length, take, true};
 ghost use Rattle.csv_records.specs.Rows.{rows_of};
-ghost use Rattle.record_rows.specs.Rows.{HasFields, IsRow, IsRowIn, PushesCell, ReachesPast, Refuses, RefusesFields, RefusesWord, is_wanted};
+ghost use Rattle.record_rows.specs.Rows.{HasFields, IsRow, IsRowIn, PushesCell, ReachesPast, Refuses, RefusesFields};
+ghost use Rattle.record_rows.specs.Rows.{RefusesWord, is_wanted};
 ghost use Rattle.record_rows.specs.Walks.{field_of};
 
 use crate::errors::RowReadError;

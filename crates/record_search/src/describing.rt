@@ -1,9 +1,14 @@
 //! The rows of a zone are described.
 
-ghost use Rattle.std.specs.Prelude.{◌≡◌, ◌++◌, ◌<◌, ◌^◌, List, [], IfErr, IfOk, None, OnOk, false, length, sum_by, true};
+ghost use Rattle.std.specs.Prelude.{◌≡◌, ◌++◌, ◌<◌, ◌^◌, List, [], IfErr, IfOk, None, OnOk, false, length, sum_by};
+ghost use Rattle.std.specs.Prelude.{true};
 ghost use Rattle.std.specs.Int.{to_le_bytes, w64};
 ghost use Rattle.csv_records.specs.Records.{records_of};
-ghost use Rattle.record_search.specs.Words.{AreAllComplete, AreDescribed, AreDescribedFully, AreRowsOf, Cell, DescribeRows, DescribeRowsFully, IfRecordRefused, IsHeldKnown, ObservesRow, PushesCut, RefusesRecord, SomeIsFull, TellsOffset, TellsOneOf, TellsRecord, before_refused, bytes_encoding, encoding, has_row, is_refused, known, nulls_under, row_under, rows_under, told};
+ghost use Rattle.record_search.specs.Words.{AreAllComplete, AreDescribed, AreDescribedFully, AreRowsOf, Cell};
+ghost use Rattle.record_search.specs.Words.{DescribeRows, DescribeRowsFully, IfRecordRefused, IsHeldKnown, ObservesRow};
+ghost use Rattle.record_search.specs.Words.{PushesCut, RefusesRecord, SomeIsFull, TellsOffset, TellsOneOf, TellsRecord};
+ghost use Rattle.record_search.specs.Words.{before_refused, bytes_encoding, encoding, has_row, is_refused, known};
+ghost use Rattle.record_search.specs.Words.{nulls_under, row_under, rows_under, told};
 
 use crate::schema::{Schema, record_fault};
 use csv_records::{Delimiter, cut_record};

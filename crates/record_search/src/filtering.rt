@@ -1,7 +1,8 @@
 //! A filter says which records match.
 
 ghost use Rattle.std.specs.Prelude.{◌≡◌};
-ghost use Rattle.record_search.specs.Words.{DescribeRows, RefusesRecord, decision_by, decision_of, formula, has_row, is_refused, matches_record};
+ghost use Rattle.record_search.specs.Words.{DescribeRows, RefusesRecord, decision_by, decision_of, formula, has_row};
+ghost use Rattle.record_search.specs.Words.{is_refused, matches_record};
 
 use crate::laws::decisions_are_right;
 use crate::naming::named_columns;

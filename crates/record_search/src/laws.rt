@@ -3,7 +3,8 @@
 //! These functions do nothing when they run. The contract of each is a law over the definitions in
 //! `specs/`, and its proof is the law's proof.
 
-ghost use Rattle.record_search.specs.Laws.{DecisionsAreRight, IndexesAreReadBack, IndexesFindAll, PiecesAreRead, RowsAreRead};
+ghost use Rattle.record_search.specs.Laws.{DecisionsAreRight, IndexesAreReadBack, IndexesFindAll, PiecesAreRead};
+ghost use Rattle.record_search.specs.Laws.{RowsAreRead};
 
 use vortex_row::laws::{keys_are_apart, values_have_no_typed};
 use vortex_value::laws::{order_is_reversed, order_is_transitive};

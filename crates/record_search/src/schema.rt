@@ -1,7 +1,8 @@
 //! Records are read as rows under a schema.
 
 ghost use Rattle.std.specs.Prelude.{◌≡◌, None, Some, IfErr, IfOk, OnOk, false, if◌then◌else◌, map, option_map, true};
-ghost use Rattle.record_search.specs.Words.{AgreeAsRows, IfRecordRefused, RefusesRecord, TellsRecord, cell_of, fault_at_place, is_refused, row_cells, row_under};
+ghost use Rattle.record_search.specs.Words.{AgreeAsRows, IfRecordRefused, RefusesRecord, TellsRecord, cell_of};
+ghost use Rattle.record_search.specs.Words.{fault_at_place, is_refused, row_cells, row_under};
 
 pub use record_rows::Schema;
 use record_rows::{RowReadError, read_cells, read_row};

@@ -1,7 +1,11 @@
 //! Rows are indexed, found and counted.
 
 ghost use Rattle.std.specs.Prelude.{◌≡◌, ◌≢◌, ◌<◌, ◌++◌, [], ℕ, List, None, Some, IfErr, IfOk, OnOk, length, sum_by};
-ghost use Rattle.record_search.specs.Words.{AnswersCountRows, AnswersFindRows, Asks, CutShort, EndsFar, HaveSizes, IfRefused, IsFullRowIndex, IsOfZone, IsPartOfZone, IsRowIndex, RefusesRecord, TellsOffset, TellsOneOf, TooFar, FailedWrite, before_refused, columns_of, decision_of, formula, is_refused, nulls_under, records_under, told};
+ghost use Rattle.record_search.specs.Words.{AnswersCountRows, AnswersFindRows, Asks, CutShort, EndsFar, HaveSizes};
+ghost use Rattle.record_search.specs.Words.{IfRefused, IsFullRowIndex, IsOfZone, IsPartOfZone, IsRowIndex};
+ghost use Rattle.record_search.specs.Words.{RefusesRecord, TellsOffset, TellsOneOf, TooFar, FailedWrite};
+ghost use Rattle.record_search.specs.Words.{before_refused, columns_of, decision_of, formula, is_refused, nulls_under};
+ghost use Rattle.record_search.specs.Words.{records_under, told};
 
 use crate::describing::RowDescriber;
 use crate::filtering::RowFilter;

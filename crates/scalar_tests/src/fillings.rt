@@ -1,7 +1,8 @@
 //! What a caller derives about zeros and defaults, from the contracts and the laws alone.
 
 ghost use Rattle.std.specs.Prelude.{◌≡◌, IfErr, IfOk, IfSome, Some, true};
-ghost use Rattle.scalar_tests.specs.Words.{IsNullable, UnionsHaveVariants, is_zero_of, null, scalar_content, scalar_type, type_of};
+ghost use Rattle.scalar_tests.specs.Words.{IsNullable, UnionsHaveVariants, is_zero_of, null, scalar_content};
+ghost use Rattle.scalar_tests.specs.Words.{scalar_type, type_of};
 
 use std::alloc::Global;
 use vortex_dtype::{DType, VortexError};

@@ -2,7 +2,8 @@
 //! match are counted, and read only if the statistics leave that open. Statistics tell whether some
 //! cell gives a test a truth, and a filter that fits its columns compares contents.
 
-ghost use Rattle.std.specs.Prelude.{◌≡◌, ◌↔◌, ◌⊎◌, false, IfOk, IsOk, IsSome, IsTrue, None, Some, length, map, slice_get, true};
+ghost use Rattle.std.specs.Prelude.{◌≡◌, ◌↔◌, ◌⊎◌, false, IfOk, IsOk, IsSome, IsTrue, None, Some, length, map};
+ghost use Rattle.std.specs.Prelude.{slice_get, true};
 ghost use Rattle.vortex_dtype.specs.TypeOf.{type_of};
 ghost use Rattle.vortex_dtype.specs.TypeTree.{TypeTree};
 ghost use Rattle.vortex_value.specs.Laws.HasContent.{HasContent};

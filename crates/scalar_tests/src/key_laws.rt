@@ -1,7 +1,8 @@
 //! What callers derive from the contracts and the laws of keys alone. Keys give the order of two
 //! scalars, and a cast keeps them. Columns are sorted, searched and merged by keys.
 
-ghost use Rattle.std.specs.Prelude.{◌++◌, ◌≡◌, [], IfNone, IfOk, IfSome, MatchOption, Some, option_copied, slice_get, true};
+ghost use Rattle.std.specs.Prelude.{◌++◌, ◌≡◌, [], IfNone, IfOk, IfSome, MatchOption, Some, option_copied, slice_get};
+ghost use Rattle.std.specs.Prelude.{true};
 ghost use Rattle.std.specs.List.{All, HoldsAt};
 ghost use Rattle.std.specs.List.Sorted.{IsPermutation, IsSorted, IsSortedBy, IsStable};
 ghost use Rattle.std.specs.declared.cmp.Ordering.{Ordering};

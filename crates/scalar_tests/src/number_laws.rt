@@ -1,7 +1,8 @@
 //! What a caller derives about integer values, from the contracts of their calls and the laws alone.
 
 ghost use Rattle.std.specs.Prelude.{◌↔◌, ◌≡◌, ◌≤ℤ◌, IsTrue, fold, ℤ};
-ghost use Rattle.scalar_tests.specs.Words.{IsNumber, IsWrapped, byte_width_of, greatest_of, in_range, least_of, ptype_of, whole_of};
+ghost use Rattle.scalar_tests.specs.Words.{IsNumber, IsWrapped, byte_width_of, greatest_of, in_range, least_of};
+ghost use Rattle.scalar_tests.specs.Words.{ptype_of, whole_of};
 
 use std::cmp::Ordering;
 use std::hash::{Hash, Hasher};

@@ -1,7 +1,9 @@
 //! What a caller derives about several casts, from the contract of `cast` and the laws alone.
 
 ghost use Rattle.std.specs.Prelude.{[], ◌∷◌, ◌≡◌, IfErr, IfOk};
-ghost use Rattle.scalar_tests.specs.Words.{GivesCast, HasNoExtension, HasNoMap, IsMadeOf, IsTheOne, IsValid, IsValidRef, Runs, Same, integer_type, list_type, scalar_content, scalar_order, scalar_raw, scalar_type, type_of};
+ghost use Rattle.scalar_tests.specs.Words.{GivesCast, HasNoExtension, HasNoMap, IsMadeOf, IsTheOne, IsValid};
+ghost use Rattle.scalar_tests.specs.Words.{IsValidRef, Runs, Same, integer_type, list_type, scalar_content};
+ghost use Rattle.scalar_tests.specs.Words.{scalar_order, scalar_raw, scalar_type, type_of};
 
 use std::alloc::Global;
 use vortex_dtype::{DType, Nullability, PType, VortexError};

@@ -3,7 +3,9 @@
 //! a map gives each key.
 
 ghost use Rattle.std.specs.Prelude.{◌≡◌, IsTrue, length};
-ghost use Rattle.scalar_tests.specs.Words.{EqualContents, HasNoVariant, IsValidRef, Same, list_ref, list_view_type, map_view_raw, parts_of, ref_content, ref_feed, text_view_content, text_view_type, typed_feed};
+ghost use Rattle.scalar_tests.specs.Words.{EqualContents, HasNoVariant, IsValidRef, Same, list_ref, list_view_type};
+ghost use Rattle.scalar_tests.specs.Words.{map_view_raw, parts_of, ref_content, ref_feed, text_view_content};
+ghost use Rattle.scalar_tests.specs.Words.{text_view_type, typed_feed};
 
 use std::alloc::Global;
 use std::cmp::Ordering;

@@ -3,7 +3,8 @@
 ghost use Rattle.std.specs.Prelude.{◌≡◌, ◌≢◌, MatchOption, option_map};
 ghost use Rattle.statistics_bytes.specs.declared.flags.BoundState.{BoundState};
 ghost use Rattle.statistics_bytes.specs.declared.flags.Flags.{Flags};
-ghost use Rattle.statistics_bytes.specs.Words.{bound_flags, flags, flags_byte, has_bound, known, known_bound, option_copied, state_bits};
+ghost use Rattle.statistics_bytes.specs.Words.{bound_flags, flags, flags_byte, has_bound, known, known_bound};
+ghost use Rattle.statistics_bytes.specs.Words.{option_copied, state_bits};
 
 use vortex_statistics::{Bound, ColumnStatistics};
 

@@ -2,7 +2,8 @@
 
 ghost use Rattle.std.specs.Prelude.{◌≡◌, ◌↔◌, Err, IfErr, OnOk};
 ghost use Rattle.vortex_statistics.specs.Statistics.{Known};
-ghost use Rattle.statistics_bytes.specs.Words.{HasValidBounds, HasVariant, IsBadPiece, ReadsInto, ReadsRight, SayVariant, Says, known, nothing_known, type_of};
+ghost use Rattle.statistics_bytes.specs.Words.{HasValidBounds, HasVariant, IsBadPiece, ReadsInto, ReadsRight};
+ghost use Rattle.statistics_bytes.specs.Words.{SayVariant, Says, known, nothing_known, type_of};
 
 use crate::reading::decode_statistics_into;
 use std::alloc::Global;

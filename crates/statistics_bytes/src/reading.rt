@@ -1,8 +1,15 @@
 //! Statistics from their encoding in bytes.
 
-ghost use Rattle.std.specs.Prelude.{◌≡◌, ◌≢◌, ◌++◌, ◌∷◌, ◌+◌, ◌<◌, ◌≤◌, ◌^◌, ◌↔◌, ◌⊎◌, ℕ, List, [], Err, IfErr, IfOk, MatchOption, OnOk, Some, drop, length, option_map, true};
+ghost use Rattle.std.specs.Prelude.{◌≡◌, ◌≢◌, ◌++◌, ◌∷◌, ◌+◌, ◌<◌, ◌≤◌, ◌^◌, ◌↔◌, ◌⊎◌, ℕ, List, [], Err, IfErr, IfOk};
+ghost use Rattle.std.specs.Prelude.{MatchOption, OnOk, Some, drop, length, option_map, true};
 ghost use Rattle.vortex_statistics.specs.Statistics.{Known};
-ghost use Rattle.statistics_bytes.specs.Words.{AreBoundKeys, AreBoundsRead, AreOf, BadBytes, HasNoVariant, HasValidBounds, HasValues, HasVariant, IsBadBound, IsBadEncoding, IsBoundKey, IsBoundRead, IsBoundReadAt, IsCountsRead, IsFirstWrong, IsEncodingOf, IsRefusal, IsValid, IsValidBound, IsWrongStart, OutOfMemory, ReadsAs, ReadsInto, ReadsRight, SaysBound, UnionsHaveVariants, count_bytes, counts_length, flags_byte, encoding, has_bound, is_there, known, known_bound, state_at, type_of};
+ghost use Rattle.statistics_bytes.specs.Words.{AreBoundKeys, AreBoundsRead, AreOf, BadBytes, HasNoVariant};
+ghost use Rattle.statistics_bytes.specs.Words.{HasValidBounds, HasValues, HasVariant, IsBadBound, IsBadEncoding};
+ghost use Rattle.statistics_bytes.specs.Words.{IsBoundKey, IsBoundRead, IsBoundReadAt, IsCountsRead, IsFirstWrong};
+ghost use Rattle.statistics_bytes.specs.Words.{IsEncodingOf, IsRefusal, IsValid, IsValidBound, IsWrongStart};
+ghost use Rattle.statistics_bytes.specs.Words.{OutOfMemory, ReadsAs, ReadsInto, ReadsRight, SaysBound};
+ghost use Rattle.statistics_bytes.specs.Words.{UnionsHaveVariants, count_bytes, counts_length, flags_byte, encoding};
+ghost use Rattle.statistics_bytes.specs.Words.{has_bound, is_there, known, known_bound, state_at, type_of};
 
 use crate::flags::{BoundState, Flags, flags_from};
 use crate::writing::{VERSION, ascending, expect_keys};

@@ -1,7 +1,12 @@
 //! The encoding of statistics in bytes, appended.
 
-ghost use Rattle.std.specs.Prelude.{◌≡◌, ◌++◌, ◌+◌, ◌<◌, ◌≤◌, ◌^◌, ◌↔◌, ◌⊎◌, ℕ, List, Err, IfErr, IfSome, IsOk, OnErr, OnOk, length, option_map};
-ghost use Rattle.statistics_bytes.specs.Words.{Appends, HasNoVariant, HasNoVariantIn, HasNoVariants, HasRoom, HasVariant, IsHeld, IsHeldBound, IsHeldKnown, OutOfMemory, ascending, bound_bytes, count_bytes, encoding, key, known, known_bound, known_count_bytes, option_copied, scalar_content, scalar_type, type_of, vec_capacity, vec_len};
+ghost use Rattle.std.specs.Prelude.{◌≡◌, ◌++◌, ◌+◌, ◌<◌, ◌≤◌, ◌^◌, ◌↔◌, ◌⊎◌, ℕ, List, Err, IfErr, IfSome, IsOk, OnErr};
+ghost use Rattle.std.specs.Prelude.{OnOk, length, option_map};
+ghost use Rattle.statistics_bytes.specs.Words.{Appends, HasNoVariant, HasNoVariantIn, HasNoVariants, HasRoom};
+ghost use Rattle.statistics_bytes.specs.Words.{HasVariant, IsHeld, IsHeldBound, IsHeldKnown, OutOfMemory, ascending};
+ghost use Rattle.statistics_bytes.specs.Words.{bound_bytes, count_bytes, encoding, key, known, known_bound};
+ghost use Rattle.statistics_bytes.specs.Words.{known_count_bytes, option_copied, scalar_content, scalar_type, type_of};
+ghost use Rattle.statistics_bytes.specs.Words.{vec_capacity, vec_len};
 
 use crate::flags::flags_of;
 use vortex_cells::has_variant;

@@ -1,7 +1,10 @@
 //! Whether the tests of a filter fit the types of the columns.
 
 ghost use Rattle.std.specs.Prelude.{◌≡◌, ◌↔◌, length, map, option_map, slice_get, IfErr, IsOk};
-ghost use Rattle.vortex_filter.specs.Words.{FitsColumns, IsOfType, RefusesFirst, answer_behind, answer_of_both, behind, capped, cell_of, checked, checked_test, demand_of, formula, holds_strings, lacks_order, list_all, option_copied, same_type, scalar_type, suits, tests, type_of};
+ghost use Rattle.vortex_filter.specs.Words.{FitsColumns, IsOfType, RefusesFirst, answer_behind, answer_of_both, behind};
+ghost use Rattle.vortex_filter.specs.Words.{capped, cell_of, checked, checked_test, demand_of, formula, holds_strings};
+ghost use Rattle.vortex_filter.specs.Words.{lacks_order, list_all, option_copied, same_type, scalar_type, suits, tests};
+ghost use Rattle.vortex_filter.specs.Words.{type_of};
 
 use crate::error::FilterError;
 use crate::filter::Filter;

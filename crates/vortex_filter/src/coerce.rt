@@ -1,13 +1,16 @@
 //! A filter with its literals cast to the types of the columns.
 
 ghost use Rattle.std.specs.Prelude.{◌≡◌, ◌≢◌, ◌⊎◌, ◌↔◌, ◌∷◌, [], false, IfErr, IfOk, IsTrue, List, OnOk, map};
-ghost use Rattle.vortex_filter.specs.Coerces.{Coerces, CoercesLiteral, CoercesLiterals, CoercesTest, GivesOrdered, integer_in, lacking_of, lacking_order, number_in, number_lacking};
+ghost use Rattle.vortex_filter.specs.Coerces.{Coerces, CoercesLiteral, CoercesLiterals, CoercesTest, GivesOrdered};
+ghost use Rattle.vortex_filter.specs.Coerces.{integer_in, lacking_of, lacking_order, number_in, number_lacking};
 ghost use Rattle.vortex_filter.specs.Coercing.{IsCoercible, coerced, coerced_cell, lacks, position_in};
 ghost use Rattle.vortex_filter.specs.Checking.{AllFit, asks, beginning, comparing, nothing};
 ghost use Rattle.vortex_filter.specs.FilterLiterals.{AreValid, literal_tests, literals_of};
 ghost use Rattle.vortex_filter.specs.Positions.{comparison_of, member_among, range_of};
 ghost use Rattle.vortex_filter.specs.Rows.{IsRowOf, content_truth};
-ghost use Rattle.vortex_filter.specs.Words.{Cell, FitsColumns, IsValid, OutOfMemory, RefusesFirst, cell_of, comparison, formula, membership, null_test, prefix_test, range, same_type, scalar_content, scalar_type, truth, type_of};
+ghost use Rattle.vortex_filter.specs.Words.{Cell, FitsColumns, IsValid, OutOfMemory, RefusesFirst, cell_of, comparison};
+ghost use Rattle.vortex_filter.specs.Words.{formula, membership, null_test, prefix_test, range, same_type};
+ghost use Rattle.vortex_filter.specs.Words.{scalar_content, scalar_type, truth, type_of};
 
 use crate::building::{conjoin, disjoin, negate};
 use crate::check::{behind, holds_strings, is_of_type, type_at};

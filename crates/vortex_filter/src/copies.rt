@@ -3,7 +3,8 @@
 ghost use Rattle.std.specs.Prelude.{◌≡◌, ◌∷◌, [], IfErr, IfOk, MatchResult, map};
 ghost use Rattle.vortex_filter.specs.FilterLiterals.{AreValid, MakesCopies, exactly_of, literals_of};
 ghost use Rattle.vortex_filter.specs.Makes.{Makes, MakesUnlessBare};
-ghost use Rattle.vortex_filter.specs.Words.{IsBare, OutOfMemory, cell_of, comparison, formula, membership, prefix_test, range};
+ghost use Rattle.vortex_filter.specs.Words.{IsBare, OutOfMemory, cell_of, comparison, formula, membership, prefix_test};
+ghost use Rattle.vortex_filter.specs.Words.{range};
 
 use crate::building::{conjoin, disjoin, negate};
 use crate::error::FilterError;

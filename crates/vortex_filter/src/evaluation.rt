@@ -1,7 +1,8 @@
 //! The truth of a filter on a row.
 
 ghost use Rattle.std.specs.Prelude.{◌≡◌, ◌↔◌, IsTrue, map};
-ghost use Rattle.vortex_filter.specs.Words.{True, cell_at, cell_of, compare_truth, formula, is_match, is_null_cell, lent_cell, member_truth, null_truth, range_truth, truth};
+ghost use Rattle.vortex_filter.specs.Words.{True, cell_at, cell_of, compare_truth, formula, is_match, is_null_cell};
+ghost use Rattle.vortex_filter.specs.Words.{lent_cell, member_truth, null_truth, range_truth, truth};
 
 use crate::filter::Filter;
 use crate::operator::CompareOperator;

@@ -2,7 +2,8 @@
 
 ghost use Rattle.std.specs.Prelude.{◌≡◌, IfErr, IfOk, MatchResult, Some, option_map};
 ghost use Rattle.vortex_filter.specs.FilterLiterals.{AreValid};
-ghost use Rattle.vortex_filter.specs.Literals.{bytes_in, literal_tree, null_cell, number_in, number_position, position_of, scalars_at, text_in, truth_in};
+ghost use Rattle.vortex_filter.specs.Literals.{bytes_in, literal_tree, null_cell, number_in, number_position};
+ghost use Rattle.vortex_filter.specs.Literals.{position_of, scalars_at, text_in, truth_in};
 ghost use Rattle.vortex_filter.specs.Positions.{exactly, position_tree, scalars_of};
 ghost use Rattle.vortex_filter.specs.Words.{OutOfMemory, as_nullable, type_of};
 

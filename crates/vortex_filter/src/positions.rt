@@ -2,7 +2,8 @@
 
 ghost use Rattle.std.specs.Prelude.{◌≡◌, ◌∷◌, ◌++◌, [], IfErr, IfOk, IfSome, map, option_map};
 ghost use Rattle.vortex_filter.specs.FilterLiterals.{literals_of};
-ghost use Rattle.vortex_filter.specs.Positions.{cells_of, comparison_of, exactly, for_values, member_of, position_tree, prefix_of, range_of, scalars_of};
+ghost use Rattle.vortex_filter.specs.Positions.{cells_of, comparison_of, exactly, for_values, member_of, position_tree};
+ghost use Rattle.vortex_filter.specs.Positions.{prefix_of, range_of, scalars_of};
 ghost use Rattle.vortex_filter.specs.Words.{OutOfMemory, both, cell_of, formula};
 
 use crate::error::FilterError;

@@ -1,7 +1,8 @@
 //! Which strings and bytes begin with a prefix.
 
 ghost use Rattle.std.specs.Prelude.{◌≡◌, length, take};
-ghost use Rattle.vortex_filter.specs.Words.{cell_of, cell_prefix_order, lent_cell, nat_cmp, prefix_truth, same_type, slice_cmp, type_of};
+ghost use Rattle.vortex_filter.specs.Words.{cell_of, cell_prefix_order, lent_cell, nat_cmp, prefix_truth, same_type};
+ghost use Rattle.vortex_filter.specs.Words.{slice_cmp, type_of};
 
 use crate::truth::Truth;
 use std::cmp::Ordering;

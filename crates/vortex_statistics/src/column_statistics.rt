@@ -1,7 +1,8 @@
 //! What is known of the cells of a column.
 
 ghost use Rattle.std.specs.Prelude.{◌≡◌, [], false};
-ghost use Rattle.vortex_statistics.specs.Words.{AreComplete, LeaveNoNull, LeaveNoValue, empty_statistics, known, may_be_null, may_be_value};
+ghost use Rattle.vortex_statistics.specs.Words.{AreComplete, LeaveNoNull, LeaveNoValue, empty_statistics, known};
+ghost use Rattle.vortex_statistics.specs.Words.{may_be_null, may_be_value};
 
 use vortex_value::Scalar;
 

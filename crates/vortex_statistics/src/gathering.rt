@@ -2,7 +2,8 @@
 
 ghost use Rattle.std.specs.List.{All};
 ghost use Rattle.std.specs.Prelude.{◌≡◌, ◌<◌, IfErr, IfOk, fold, map, replicate};
-ghost use Rattle.vortex_statistics.specs.Words.{AreComplete, HasValidBounds, IsValid, MayTakeMemory, OutOfMemory, SomeMayTakeMemory, cell_of, known, nothing, observed};
+ghost use Rattle.vortex_statistics.specs.Words.{AreComplete, HasValidBounds, IsValid, MayTakeMemory, OutOfMemory};
+ghost use Rattle.vortex_statistics.specs.Words.{SomeMayTakeMemory, cell_of, known, nothing, observed};
 
 use crate::column_statistics::ColumnStatistics;
 use crate::error::StatisticsError;

@@ -2,7 +2,10 @@
 
 ghost use Rattle.std.specs.Prelude.{◌≡◌, ◌+◌, ◌<◌, ◌≤◌, ◌^◌, false, IfErr, IfOk, fold, map, option_map};
 ghost use Rattle.std.specs.List.{All};
-ghost use Rattle.vortex_statistics.specs.Words.{AreCompleteTogether, AreRightForAll, AreRightTogether, HasValidBounds, IsValidBound, TooManyRows, bound_of_both, bound_order, cell_order, empty_statistics, joined, known, known_bound, merged, nothing, option_copied, outer_by, rows_of, sum_of};
+ghost use Rattle.vortex_statistics.specs.Words.{AreCompleteTogether, AreRightForAll, AreRightTogether, HasValidBounds};
+ghost use Rattle.vortex_statistics.specs.Words.{IsValidBound, TooManyRows, bound_of_both, bound_order, cell_order};
+ghost use Rattle.vortex_statistics.specs.Words.{empty_statistics, joined, known, known_bound, merged, nothing};
+ghost use Rattle.vortex_statistics.specs.Words.{option_copied, outer_by, rows_of, sum_of};
 
 use crate::column_statistics::{Bound, ColumnStatistics};
 use crate::error::StatisticsError;

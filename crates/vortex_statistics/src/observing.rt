@@ -1,7 +1,11 @@
 //! The statistics of cells and one cell more.
 
 ghost use Rattle.std.specs.Prelude.{◌≡◌, ◌⊎◌, ◌+◌, ◌<◌, ◌^◌, Some, false, true, IfErr, IfOk, OnErr, OnOk, option_map};
-ghost use Rattle.vortex_statistics.specs.Words.{Cell, HasValidBounds, IsCompleteWith, IsFlatValue, IsRightWith, IsValid, IsValidBound, IsValidRef, OutOfMemory, RefusesCell, after, cell_of_ref, change_by, change_of, exact_bound, known, known_bound, lower_change, observed, order_from_above, ref_raw, ref_type, replaces, replacing, upper_change};
+ghost use Rattle.vortex_statistics.specs.Words.{Cell, HasValidBounds, IsCompleteWith, IsFlatValue, IsRightWith};
+ghost use Rattle.vortex_statistics.specs.Words.{IsValid, IsValidBound, IsValidRef, OutOfMemory, RefusesCell, after};
+ghost use Rattle.vortex_statistics.specs.Words.{cell_of_ref, change_by, change_of, exact_bound, known, known_bound};
+ghost use Rattle.vortex_statistics.specs.Words.{lower_change, observed, order_from_above, ref_raw, ref_type, replaces};
+ghost use Rattle.vortex_statistics.specs.Words.{replacing, upper_change};
 
 use crate::column_statistics::{Bound, ColumnStatistics};
 use crate::error::StatisticsError;

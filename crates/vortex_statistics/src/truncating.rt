@@ -2,7 +2,10 @@
 
 ghost use Rattle.std.specs.Prelude.{◌≡◌, ◌⊎◌, ◌&&◌, List, false, not, IfErr, IfOk};
 ghost use Rattle.vortex_cells.specs.Cells.{Cell};
-ghost use Rattle.vortex_statistics.specs.Words.{AreRight, AreTruncated, HasShortBounds, HasValidBounds, IsBestAnswer, IsCutAt, IsLong, IsLongRaw, IsOutOfMemoryAt, IsTruncated, IsTruncatedLower, IsTruncatedUpper, IsTypeOfKind, MayHold, is_absent, kind_of, known, scalar_raw, scalar_type};
+ghost use Rattle.vortex_statistics.specs.Words.{AreRight, AreTruncated, HasShortBounds, HasValidBounds, IsBestAnswer};
+ghost use Rattle.vortex_statistics.specs.Words.{IsCutAt, IsLong, IsLongRaw, IsOutOfMemoryAt, IsTruncated};
+ghost use Rattle.vortex_statistics.specs.Words.{IsTruncatedLower, IsTruncatedUpper, IsTypeOfKind, MayHold, is_absent};
+ghost use Rattle.vortex_statistics.specs.Words.{kind_of, known, scalar_raw, scalar_type};
 
 use crate::column_statistics::{Bound, ColumnStatistics};
 use crate::error::StatisticsError;

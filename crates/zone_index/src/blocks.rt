@@ -1,7 +1,8 @@
 //! The blocks of an index: pieces of the statistics of its zones.
 
 ghost use Rattle.std.specs.Prelude.{◌≡◌, ◌++◌, [], OnOk, map};
-ghost use Rattle.zone_index.specs.Encoding.{block_value, bytes_encoding, is_wanted, with_statistics, with_unread, zone_values};
+ghost use Rattle.zone_index.specs.Encoding.{block_value, bytes_encoding, is_wanted, with_statistics, with_unread};
+ghost use Rattle.zone_index.specs.Encoding.{zone_values};
 ghost use Rattle.zone_index.specs.EncodingReading.{Gives, added_at, blocks_at, dealt_at};
 
 use crate::encoding::{Block, EncodingError, ReadError};

@@ -1,6 +1,7 @@
 //! Readers whose bytes have offsets.
 
-ghost use Rattle.std.specs.Prelude.{◌≡◌, ◌≢◌, ◌<◌, ◌≤◌, ◌+◌, ◌++◌, ◌∷◌, ◌^◌, [], ℕ, List, Option, Some, None, IfErr, IfOk, IfSome, OnErr, OnOk, drop, length, take};
+ghost use Rattle.std.specs.Prelude.{◌≡◌, ◌≢◌, ◌<◌, ◌≤◌, ◌+◌, ◌++◌, ◌∷◌, ◌^◌, [], ℕ, List, Option, Some, None, IfErr};
+ghost use Rattle.std.specs.Prelude.{IfOk, IfSome, OnErr, OnOk, drop, length, take};
 ghost use Rattle.std.specs.Io.{ReadsAtMost};
 ghost use Rattle.std.specs.Io.Cursor.{cursor_inner};
 ghost use Rattle.zone_index.specs.Asking.{AsksOnce, AsksWithin, asked_at};

@@ -2,8 +2,11 @@
 
 ghost use Rattle.std.specs.Prelude.{◌≡◌, ◌++◌, ℕ, List, IfErr, IfOk, Ok, map};
 ghost use Rattle.std.specs.List.{concat};
-ghost use Rattle.zone_index.specs.Encoding.{AddBlocks, FitsEncoding, IndexValue, block_value, blocks_of, index_encoding, index_value, root_encoding, root_of, root_value, wanted_of, zone_value, zone_values};
-ghost use Rattle.zone_index.specs.EncodingReading.{Gives, block_at, content_at, counted_at, file_at, index_at, many_at, root_at, signed_at, zone_at};
+ghost use Rattle.zone_index.specs.Encoding.{AddBlocks, FitsEncoding, IndexValue, block_value, blocks_of};
+ghost use Rattle.zone_index.specs.Encoding.{index_encoding, index_value, root_encoding, root_of, root_value, wanted_of};
+ghost use Rattle.zone_index.specs.Encoding.{zone_value, zone_values};
+ghost use Rattle.zone_index.specs.EncodingReading.{Gives, block_at, content_at, counted_at, file_at, index_at, many_at};
+ghost use Rattle.zone_index.specs.EncodingReading.{root_at, signed_at, zone_at};
 ghost use Rattle.zone_index.specs.declared.encoding.ReadError.TheVariants.{Memory};
 
 use crate::blocks::add_blocks;

@@ -1,6 +1,7 @@
 //! What records mean to an index and a search.
 
-ghost use Rattle.std.specs.Prelude.{◌≡◌, ℕ, List, Bool, IfErr, IfOk, None, OnOk, false, length, not, count_by, true, sum_by};
+ghost use Rattle.std.specs.Prelude.{◌≡◌, ℕ, List, Bool, IfErr, IfOk, None, OnOk, false, length, not, count_by, true};
+ghost use Rattle.std.specs.Prelude.{sum_by};
 ghost use Rattle.std.specs.List.{AllPass};
 ghost use Rattle.csv_records.specs.Records.{records_of};
 ghost use Rattle.zone_index.specs.Errors.{IfRecordRefused, TellsOffset, TellsOneOf, TellsRecord, before_refused};

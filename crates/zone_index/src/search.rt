@@ -1,13 +1,16 @@
 //! The search.
 
-ghost use Rattle.std.specs.Prelude.{◌≡◌, ◌≢◌, ◌<◌, ◌≤◌, ◌+◌, ◌++◌, ◌-◌, ◌^◌, ℕ, List, [], IfErr, IfOk, IfSome, None, OnOk, count_by, false, if◌then◌else◌, length, min, true};
+ghost use Rattle.std.specs.Prelude.{◌≡◌, ◌≢◌, ◌<◌, ◌≤◌, ◌+◌, ◌++◌, ◌-◌, ◌^◌, ℕ, List, [], IfErr, IfOk, IfSome, None};
+ghost use Rattle.std.specs.Prelude.{OnOk, count_by, false, if◌then◌else◌, length, min, true};
 ghost use Rattle.std.specs.Io.KnownBytes.{Appends};
 ghost use Rattle.csv_records.specs.Records.{records_of};
 ghost use Rattle.zone_index.specs.Answers.{AnswersFind};
 ghost use Rattle.zone_index.specs.Asking.{Asks, AsksWithin};
-ghost use Rattle.zone_index.specs.Errors.{IfRefused, IsOfReading, IsOfRecord, TellsOneOf, TellsOffset, TellsRecord, before_refused};
+ghost use Rattle.zone_index.specs.Errors.{IfRefused, IsOfReading, IsOfRecord, TellsOneOf, TellsOffset, TellsRecord};
+ghost use Rattle.zone_index.specs.Errors.{before_refused};
 ghost use Rattle.zone_index.specs.Sinks.{told, written_of};
-ghost use Rattle.zone_index.specs.Zones.{AsksOfZone, IsHeld, IsIndexOf, IsOfZone, IsWayOf, IsZoneOf, is_copy, is_search, is_searched, is_skip, way_of, zone_bytes, zone_records};
+ghost use Rattle.zone_index.specs.Zones.{AsksOfZone, IsHeld, IsIndexOf, IsOfZone, IsWayOf, IsZoneOf, is_copy};
+ghost use Rattle.zone_index.specs.Zones.{is_search, is_searched, is_skip, way_of, zone_bytes, zone_records};
 ghost use Rattle.zone_index.specs.declared.errors.SearchError.TheVariants.{CutShort, TooFar, Write as FailedWrite};
 
 use crate::counting::one_more;
@@ -65,7 +68,8 @@ pub fn find<R: ReadAt, M: Matcher, S: Sink>(
     ensures answer { AnswersFind
         (IsIndexOf (M.delimiter matcher.now) (M.has_row matcher.now) (M.Describes matcher.now))
         (M.Refuses matcher.now) (M.is_refused matcher.now) (M.delimiter matcher.now) (M.matches matcher.now)
-        (M.decides matcher.now) S.written_as first zones.now (R.bytes reader.old) (S.contents sink.old) (S.contents sink.new) result }
+        (M.decides matcher.now) S.written_as first zones.now (R.bytes reader.old)
+        (S.contents sink.old) (S.contents sink.new) result }
     ensures kept { R.bytes reader.new ≡ R.bytes reader.old }
     // All that the reader was asked for stands in zones that are not skipped.
     ensures asks { Asks (IsOfZone (M.decides matcher.now) zones.now) (R.asked reader.old) (R.asked reader.new) }
@@ -175,7 +179,8 @@ pub(crate) fn read_zone<R: ReadAt>(
         → zone.now.first + zone.now.length ≤ length was → piece.items ≡ zone_bytes was zone.now) }
     ensures long { IfOk result (λ piece. length piece.items ≡ zone.now.length) }
     ensures kept { R.bytes reader.new ≡ R.bytes reader.old }
-    ensures asks { AsksWithin (R.asked reader.old) (R.asked reader.new) zone.now.first (zone.now.first + zone.now.length) }
+    ensures asks { AsksWithin (R.asked reader.old) (R.asked reader.new)
+        zone.now.first (zone.now.first + zone.now.length) }
     ensures reading { IfErr result (λ fault. fault ≢ FailedWrite) }
     ensures why { IfErr result IsOfReading }
     ensures cut { IfErr result (λ fault. fault ≡ CutShort → IfSome (R.bytes reader.old)

@@ -4,7 +4,10 @@ ghost use Rattle.std.specs.Prelude.{◌≡◌, ◌++◌, ◌<◌, ◌^◌, ℕ, 
 ghost use Rattle.std.specs.Int.{to_le_bytes, w64};
 ghost use Rattle.std.specs.List.{AllByRecursion, concat, flat_map};
 ghost use Rattle.sha2.specs.Sha256.{sha256};
-ghost use Rattle.zone_index.specs.Encoding.{AreDealt, FitsContent, FitsFile, FitsEncoding, FitsZone, HavePieces, block_encoding, block_of, blocks_of, bytes_encoding, content_encoding, file_encoding, index_encoding, index_value, root_of, zone_encoding, zone_value, zone_values};
+ghost use Rattle.zone_index.specs.Encoding.{AreDealt, FitsContent, FitsFile, FitsEncoding, FitsZone, HavePieces};
+ghost use Rattle.zone_index.specs.Encoding.{block_encoding, block_of, blocks_of, bytes_encoding, content_encoding};
+ghost use Rattle.zone_index.specs.Encoding.{file_encoding, index_encoding, index_value, root_of, zone_encoding};
+ghost use Rattle.zone_index.specs.Encoding.{zone_value, zone_values};
 ghost use Rattle.zone_index.specs.EncodingReading.{Gives, dealt_at};
 ghost use Rattle.zone_index.specs.declared.encoding.WriteError.TheVariants.{Pieces};
 

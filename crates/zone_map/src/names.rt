@@ -1,6 +1,7 @@
 //! The names of columns.
 
-ghost use Rattle.std.specs.Prelude.{◌≡◌, ◌≢◌, ◌<◌, ◌≤◌, ◌⊎◌, ◌++◌, ◌∷◌, ℕ, [], IfNone, IfOk, IfSome, MatchBool, All, AllPairs, Contains, length, slice_index_or, string_bytes};
+ghost use Rattle.std.specs.Prelude.{◌≡◌, ◌≢◌, ◌<◌, ◌≤◌, ◌⊎◌, ◌++◌, ◌∷◌, ℕ, [], IfNone, IfOk, IfSome, MatchBool, All};
+ghost use Rattle.std.specs.Prelude.{AllPairs, Contains, length, slice_index_or, string_bytes};
 ghost use Rattle.zone_map.specs.Names.{IsFirstFree, IsName, KeepsNames, made_up, texts};
 
 use std::alloc::{AllocError, Global};
@@ -118,7 +119,8 @@ fn first_name(alloc: Global, are_divided: bool, place: usize) -> Result<String, 
 
 /// The name with as many `_` behind it as make it another one than all of these.
 fn free_name(first: String, given: &[String], names: &[String]) -> Result<String, AllocError>
-    ensures { IfOk result (λ name. IsFirstFree (string_bytes first) (texts given.now) (texts names.now) (string_bytes name)) }
+    ensures { IfOk result (λ name.
+        IsFirstFree (string_bytes first) (texts given.now) (texts names.now) (string_bytes name)) }
 {
     let mut name = first;
     while stands_in(given, &name) || stands_in(names, &name) {

@@ -1,8 +1,10 @@
 //! How a file is read, in words and in the bytes of its index.
 
-ghost use Rattle.std.specs.Prelude.{◌≡◌, ◌<◌, ◌^◌, ◌++◌, ◌∷◌, Bool, List, ℕ, [], IfOk, IsSomeAnd, IsUtf8, OnOk, Some, string_bytes, if◌then◌else◌};
+ghost use Rattle.std.specs.Prelude.{◌≡◌, ◌<◌, ◌^◌, ◌++◌, ◌∷◌, Bool, List, ℕ, [], IfOk, IsSomeAnd, IsUtf8, OnOk, Some};
+ghost use Rattle.std.specs.Prelude.{string_bytes, if◌then◌else◌};
 ghost use Rattle.std.specs.Fmt.{decimal};
-ghost use Rattle.zone_map.specs.Setups.{ColumnValue, FitNumbers, HaveNames, IsSetup, SetupValue, column_line, column_lines, column_values, kind_text, numbers_text, setup_text, setup_value};
+ghost use Rattle.zone_map.specs.Setups.{ColumnValue, FitNumbers, HaveNames, IsSetup, SetupValue, column_line};
+ghost use Rattle.zone_map.specs.Setups.{column_lines, column_values, kind_text, numbers_text, setup_text, setup_value};
 ghost use Rattle.zone_map.specs.Names.{IsName};
 ghost use Rattle.zone_map.specs.declared.setup.Numbers.{Numbers};
 ghost use Rattle.record_rows.specs.declared.schema.ColumnType.{ColumnType};
@@ -189,8 +191,8 @@ fn flag_of(number: u64) -> Option<bool>
 
 /// The columns of lines, if each is a kind and a name.
 fn columns_of_lines(alloc: Global, lines: &str) -> Result<Option<Vec<NamedColumn>>, AllocError>
-    ensures { IfOk result (λ found. (columns : List ColumnValue) → HaveNames columns → (lines.now ≡ column_lines columns)
-        → IsSomeAnd found (λ named. column_values named.items ≡ columns)) }
+    ensures { IfOk result (λ found. (columns : List ColumnValue) → HaveNames columns
+        → (lines.now ≡ column_lines columns) → IsSomeAnd found (λ named. column_values named.items ≡ columns)) }
 {
     let mut columns = Vec::new(alloc);
     let mut rest = lines;

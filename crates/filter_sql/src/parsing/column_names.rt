@@ -8,7 +8,8 @@ ghost use Rattle.std.specs.String.{string_bytes};
 ghost use Rattle.vortex_dtype.specs.TypeOf.{type_of};
 ghost use Rattle.filter_sql.specs.declared.column.Column.{Column};
 ghost use Rattle.filter_sql.specs.Mistakes.{Gives};
-ghost use Rattle.filter_sql.specs.ColumnNames.{column_named, column_trees, digits_number, named_place, numbered_place, or_numbered, typed_place};
+ghost use Rattle.filter_sql.specs.ColumnNames.{column_named, column_trees, digits_number, named_place, numbered_place};
+ghost use Rattle.filter_sql.specs.ColumnNames.{or_numbered, typed_place};
 
 use crate::column::Column;
 use crate::parsing::errors::{Cause, TokenError};

@@ -8,8 +8,12 @@ ghost use Rattle.vortex_filter.specs.FilterLiterals.{AreValid, literals_of};
 ghost use Rattle.vortex_filter.specs.Formula.{formula, membership};
 ghost use Rattle.filter_sql.specs.Literals.{is_wildcard, pattern_prefix, with_byte};
 ghost use Rattle.filter_sql.specs.Tokens.{trees};
-ghost use Rattle.filter_sql.specs.Mistakes.{Gives, cells_mistake, condition_mistake, escape_mistake, like_mistake, literal_mistake, members_mistake, more_mistake, null_test_mistake, range_mistake, test_mistake, text_cause};
-ghost use Rattle.filter_sql.specs.Reading.{ending, with_front, cells_at, comparison_at, condition_at, escape_at, like_at, members_at, more_cells, null_test_at, range_at, test_at, text_prefix};
+ghost use Rattle.filter_sql.specs.Mistakes.{Gives, cells_mistake, condition_mistake, escape_mistake, like_mistake};
+ghost use Rattle.filter_sql.specs.Mistakes.{literal_mistake, members_mistake, more_mistake, null_test_mistake};
+ghost use Rattle.filter_sql.specs.Mistakes.{range_mistake, test_mistake, text_cause};
+ghost use Rattle.filter_sql.specs.Reading.{ending, with_front, cells_at, comparison_at, condition_at, escape_at};
+ghost use Rattle.filter_sql.specs.Reading.{like_at, members_at, more_cells, null_test_at, range_at, test_at};
+ghost use Rattle.filter_sql.specs.Reading.{text_prefix};
 
 use crate::error::Expected;
 use crate::parsing::column_names::Found;

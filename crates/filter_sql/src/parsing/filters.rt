@@ -5,7 +5,8 @@ ghost use Rattle.filter_sql.specs.ColumnNames.{column_trees};
 ghost use Rattle.vortex_filter.specs.FilterLiterals.{AreValid, literals_of};
 ghost use Rattle.vortex_filter.specs.Formula.{formula};
 ghost use Rattle.filter_sql.specs.Tokens.{trees};
-ghost use Rattle.filter_sql.specs.Mistakes.{Gives, conjunction_mistake, disjunction_mistake, filter_mistake, mistakes, operand_mistake, predicate_mistake, too_deep};
+ghost use Rattle.filter_sql.specs.Mistakes.{Gives, conjunction_mistake, disjunction_mistake, filter_mistake, mistakes};
+ghost use Rattle.filter_sql.specs.Mistakes.{operand_mistake, predicate_mistake, too_deep};
 ghost use Rattle.filter_sql.specs.Reading.{conjunction_of, disjunction_of, filter_at, operand_of, predicate_at, reads};
 
 use crate::column::Column;

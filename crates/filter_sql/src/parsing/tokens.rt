@@ -5,7 +5,8 @@ ghost use Rattle.std.specs.Option.{option_map};
 ghost use Rattle.std.specs.String.{string_bytes};
 ghost use Rattle.filter_sql.specs.Tokens.{token_tree, trees};
 ghost use Rattle.filter_sql.specs.Mistakes.{Gives, expected};
-ghost use Rattle.filter_sql.specs.Reading.{after_closing, after_comma, after_keyword, after_opening, is_keyword, name_at, operator_at, string_at};
+ghost use Rattle.filter_sql.specs.Reading.{after_closing, after_comma, after_keyword, after_opening, is_keyword};
+ghost use Rattle.filter_sql.specs.Reading.{name_at, operator_at, string_at};
 
 use crate::error::Expected;
 use crate::parsing::errors::{Cause, TokenError};
