@@ -42,7 +42,7 @@ enum {
     DOQALLIN_GIVEN = 0,         /* what was asked for is written */
     DOQALLIN_NONE = 1,          /* there is no such value, or the cast is refused */
     DOQALLIN_NO_MEMORY = 2,     /* an allocation was refused */
-    DOQALLIN_BUFFER_TOO_SMALL = 3, /* a buffer is too small: the lengths that are needed are written, and nothing else */
+    DOQALLIN_BUFFER_TOO_SMALL = 3, /* a buffer is too small: the lengths that are needed are written, if any, and nothing else */
     DOQALLIN_NOT_UTF8 = 4,      /* bytes that are to be a string are not UTF-8 */
     DOQALLIN_NOT_A_NUMBER = 5,  /* a code names no integer type, or the bits stand for no number of the type */
     DOQALLIN_BAD_OFFSETS = 6,   /* offsets go down, or past the end of the bytes */

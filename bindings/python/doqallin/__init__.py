@@ -2,7 +2,7 @@
 # SPDX-FileCopyrightText: Copyright the Vortex contributors; ported to Rattle and changed
 """Columns and scalars: statistics, filters that skip what cannot match, keys that sort, and casts that never change a value.
 
-A column is what has Arrow data (`__arrow_c_array__` or `__arrow_c_stream__`, as pyarrow, polars, DuckDB and pandas have), a
+A column is what has Arrow data (`__arrow_c_array__` or `__arrow_c_stream__`), a
 buffer of integers (as a numpy array is), or a list. Arrow data and buffers are read where they lie.
 
 Statistics of a column are its counts of rows and nulls, and bounds. Those of parts give those of the whole, in any grouping:

@@ -21,7 +21,7 @@ pub enum StatisticsError {
     HasVariant,
     /// The bytes are no encoding of statistics of the type: the offset of the first byte that none
     /// has there, or of the end if they end too early. Of the calls of `statistics_bytes` alone.
-    #[error("no form of statistics of the type: byte {offset}")]
+    #[error("no encoding of statistics of the type: byte {offset}")]
     BadBytes { offset: usize },
 }
 

@@ -155,7 +155,7 @@ fn root_in(alloc: Global, bytes: &[u8]) -> Result<(Root, &[u8]), ReadError>
     Ok((root, rest))
 }
 
-/// The root of an index, and the bytes of its blocks, which are not looked at.
+/// The root of an index, and the bytes of its blocks, on which the root does not depend.
 pub fn read_root(alloc: Global, bytes: &[u8]) -> Result<(Root, &[u8]), ReadError>
     // What is read has this encoding.
     ensures found { IfOk result (λ read. bytes.now ≡ root_encoding (root_value read.0) ++ read.1.now) }
@@ -184,7 +184,7 @@ fn index_in(root: Root, bytes: &[u8], wanted: &[bool]) -> Result<Index, ReadErro
 
 /// The index of a root, with the statistics that its blocks have: these bytes.
 ///
-/// A block at whose place the list has `false` is not wanted. Its bytes are not looked at, and
+/// A block at whose place the list has `false` is not wanted. The answer does not depend on its bytes, and
 /// each zone has an empty piece of it.
 pub fn read_blocks(root: Root, bytes: &[u8], wanted: &[bool]) -> Result<Index, ReadError>
     // What is read has this encoding.
