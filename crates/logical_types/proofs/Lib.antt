@@ -1,6 +1,9 @@
+mod ClockWords
 mod DateWords
 mod DecimalsBack
 mod DecimalsExact
 mod FloatWords
+mod NamesBack
 mod OneValue
+mod PlacesShown
 mod TimestampWords

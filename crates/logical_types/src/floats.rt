@@ -3,8 +3,9 @@
 
 ghost use Rattle.std.specs.Prelude.{◌≡◌, ◌≤◌, IsAscii, Some, length};
 ghost use Rattle.std.specs.Float.{binary32, binary64};
-ghost use Rattle.float_storage.specs.Storage.{IsStorage};
-ghost use Rattle.logical_types.specs.Floats.{has_digit, storage_written};
+ghost use Rattle.float_storage.specs.Storage.{IsStorage, storage_of};
+ghost use Rattle.logical_types.specs.Floats.{finite, has_digit, storage_written};
+ghost use Rattle.fast_float.specs.Rounding.{nearest_to_decimal};
 
 use float_storage::{f32_of_storage, f64_of_storage, storage_of_f32, storage_of_f64};
 use ryu::Buffer;
@@ -43,6 +44,35 @@ pub fn f32_storage_of_word(word: &[u8]) -> Option<i32>
     };
     let is_infinite = storage == INFINITY_32 || storage == -INFINITY_32;
     if is_infinite && has_digit(word) {
+        None
+    } else {
+        Some(storage)
+    }
+}
+
+/// The storage of the f64 nearest to digits * 10 ^ exponent, negated if the number is negative. None if
+/// the nearest is infinity.
+pub fn f64_storage_of_parts(is_negative: bool, digits: u64, exponent: i64) -> Option<i64>
+    ensures { result ≡ finite binary64
+        (storage_of binary64 (nearest_to_decimal binary64 is_negative digits exponent)) }
+{
+    let number: f64 = fast_float::from_parts(is_negative, digits, exponent);
+    let storage = storage_of_f64(number);
+    if storage == INFINITY_64 || storage == -INFINITY_64 {
+        None
+    } else {
+        Some(storage)
+    }
+}
+
+/// The same for f32.
+pub fn f32_storage_of_parts(is_negative: bool, digits: u64, exponent: i64) -> Option<i32>
+    ensures { result ≡ finite binary32
+        (storage_of binary32 (nearest_to_decimal binary32 is_negative digits exponent)) }
+{
+    let number: f32 = fast_float::from_parts(is_negative, digits, exponent);
+    let storage = storage_of_f32(number);
+    if storage == INFINITY_32 || storage == -INFINITY_32 {
         None
     } else {
         Some(storage)

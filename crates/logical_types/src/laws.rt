@@ -1,25 +1,28 @@
 // SPDX-License-Identifier: Apache-2.0
 //! Laws of words, each the contract of a function that does nothing.
 
-ghost use Rattle.std.specs.Prelude.{◌≡◌, ◌<◌, ℕ, ℤ, List, Some, unsigned_abs};
+ghost use Rattle.std.specs.Prelude.{◌≡◌, ◌<◌, ◌^◌, ℕ, ℤ, List, Some, unsigned_abs};
 ghost use Rattle.logical_types.specs.DecimalWorth.{IsWorth};
 ghost use Rattle.logical_types.specs.Decimals.{decimal_text, decimal_value};
 ghost use Rattle.logical_types.specs.Words.{Writes};
 
-use crate::logical::LogicalType;
+use crate::logical::{DecimalType, LogicalType};
 
 /// What is written of a number is read as that number.
-pub fn decimals_read_back(limit: u64, scale: u8, number: i64)
-    ensures { unsigned_abs number < limit
-        → decimal_value limit scale (decimal_text scale number) ≡ Some number }
-{}
+pub fn decimals_read_back(decimal: DecimalType, number: i128)
+    ensures { unsigned_abs number < 10 ^ decimal.precision
+        → decimal_value (10 ^ decimal.precision) decimal.scale (decimal_text decimal.scale number) ≡ Some number }
+{
+    let _ = decimal;
+    let _ = number;
+}
 
 /// A word that is read writes the number, times 10 ^ scale, exactly.
-pub fn decimals_are_exact(limit: u64, scale: u8)
-    ensures { (word : List ℕ) (z : ℤ) → decimal_value limit scale word ≡ Some z → IsWorth scale word z }
+pub fn decimals_are_exact(decimal: DecimalType)
+    ensures { (word : List ℕ) (z : ℤ) → decimal_value (10 ^ decimal.precision) decimal.scale word ≡ Some z
+        → IsWorth decimal.scale word z }
 {
-    let _ = limit;
-    let _ = scale;
+    let _ = decimal;
 }
 
 /// A word writes one value of a type: so what is written is read as the same.

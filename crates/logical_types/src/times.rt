@@ -74,7 +74,7 @@ fn word_of_civil(is_zoned: bool, civil: DateTime) -> ArrayString<33>
 }
 
 /// The moment that a word writes, in nanoseconds since 1970-01-01T00:00:00.
-fn moment_of_word(is_zoned: bool, word: &[u8]) -> Option<i128>
+pub(crate) fn moment_of_word(is_zoned: bool, word: &[u8]) -> Option<i128>
     ensures { result ≡ moment_written is_zoned word.now }
 {
     if !has_separators(word) {
