@@ -7,3 +7,4 @@ mod NamesBack
 mod OneValue
 mod PlacesShown
 mod TimestampWords
+mod WideBytes

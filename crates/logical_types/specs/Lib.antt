@@ -6,5 +6,6 @@ pub mod Extensions
 pub mod Floats
 pub mod Names
 pub mod Places
+pub mod Storing
 pub mod Times
 pub mod Words

@@ -4,7 +4,9 @@
 mod places;
 mod printing;
 mod reading;
+mod storing;
 
 pub use places::{DecimalPlace, place_of_word};
 pub use printing::text_of_decimal;
 pub use reading::decimal_of_word;
+pub use storing::{bytes_of_decimal, decimal_of_bytes};

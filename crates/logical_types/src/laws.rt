@@ -4,7 +4,12 @@
 ghost use Rattle.std.specs.Prelude.{◌≡◌, ◌<◌, ◌^◌, ℕ, ℤ, List, Some, unsigned_abs};
 ghost use Rattle.logical_types.specs.DecimalWorth.{IsWorth};
 ghost use Rattle.logical_types.specs.Decimals.{decimal_text, decimal_value};
+ghost use Rattle.logical_types.specs.Places.{IsPlaceOfWord, fine_scale};
+ghost use Rattle.logical_types.specs.Storing.{decimal_bytes};
 ghost use Rattle.logical_types.specs.Words.{Writes};
+ghost use Rattle.logical_types.specs.declared.decimals.places.DecimalPlace.{DecimalPlace};
+ghost use Rattle.std.specs.Cmp.Lexicographic.{slice_cmp};
+ghost use Rattle.std.specs.Ordering.{int_cmp, nat_cmp};
 
 use crate::logical::{DecimalType, LogicalType};
 
@@ -23,6 +28,22 @@ pub fn decimals_are_exact(decimal: DecimalType)
         → IsWorth decimal.scale word z }
 {
     let _ = decimal;
+}
+
+/// The number that lies among the values of a type is exactly the one that the word writes.
+pub fn places_are_exact(decimal: DecimalType)
+    ensures { (word : List ℕ) (place : DecimalPlace) (h : IsPlaceOfWord decimal word place)
+        → IsWorth (fine_scale decimal.scale word) word h.number }
+{
+    let _ = decimal;
+}
+
+/// The 16 bytes of numbers sort as the numbers do.
+pub fn decimal_bytes_sort_as_numbers(x: i128, y: i128)
+    ensures { slice_cmp nat_cmp (decimal_bytes x) (decimal_bytes y) ≡ int_cmp x y }
+{
+    let _ = x;
+    let _ = y;
 }
 
 /// A word writes one value of a type: so what is written is read as the same.
