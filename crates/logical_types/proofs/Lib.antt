@@ -6,5 +6,6 @@ mod FloatWords
 mod NamesBack
 mod OneValue
 mod PlacesShown
+mod StoragesFit
 mod TimestampWords
 mod WideBytes

@@ -1,5 +1,6 @@
 -- Logical types as extensions: an id, metadata and a storage.
-use Rattle.std.specs.Prelude.{◌≡◌, ◌<◌, ◌+◌, ◌*◌, ℕ, List, [], ◌∷◌, Bool, true, false, codes, length, nat_le, if◌then◌else◌}
+use mir.Syntax.{w128, w32, w64}
+use Rattle.std.specs.Prelude.{◌≡◌, ◌<◌, ◌+◌, ◌*◌, ℕ, ℤ, FitsSigned, List, [], ◌∷◌, Bool, true, false, codes, length, nat_le, if◌then◌else◌}
 use Rattle.logical_types.specs.declared.times.TimeUnit.{TimeUnit}
 use Rattle.logical_types.specs.declared.times.TimeUnit.TheVariants.{Seconds, Milliseconds, Microseconds, Nanoseconds}
 use Rattle.logical_types.specs.declared.logical.LogicalType.{LogicalType}
@@ -67,6 +68,12 @@ storage_type_of (Decimal d) = if nat_le d.precision 18 then I64 else Bytes
 storage_type_of Date = I32
 storage_type_of (Time unit) = time_storage unit
 storage_type_of (Timestamp unit is_zoned) = I64
+
+-- the integers that a storage holds
+abbrev pub FitsStorage : StorageType → ℤ → Type 0
+FitsStorage I32 z = FitsSigned w32 z
+FitsStorage I64 z = FitsSigned w64 z
+FitsStorage Bytes z = FitsSigned w128 z
 
 -- the extension with this id, these metadata and this storage is the type
 pub record IsExtension (id metadata : List ℕ) (storage : StorageType) (logical : LogicalType) : Type 0 where

@@ -4,9 +4,10 @@
 ghost use Rattle.std.specs.Prelude.{◌≡◌, ◌<◌, ◌^◌, ℕ, ℤ, List, Some, unsigned_abs};
 ghost use Rattle.logical_types.specs.DecimalWorth.{IsWorth};
 ghost use Rattle.logical_types.specs.Decimals.{decimal_text, decimal_value};
+ghost use Rattle.logical_types.specs.Extensions.{FitsStorage, storage_type_of};
 ghost use Rattle.logical_types.specs.Places.{IsPlaceOfWord, fine_scale};
 ghost use Rattle.logical_types.specs.Storing.{decimal_bytes};
-ghost use Rattle.logical_types.specs.Words.{Writes};
+ghost use Rattle.logical_types.specs.Words.{IsStorageOf, Writes};
 ghost use Rattle.logical_types.specs.declared.decimals.places.DecimalPlace.{DecimalPlace};
 ghost use Rattle.std.specs.Cmp.Lexicographic.{slice_cmp};
 ghost use Rattle.std.specs.Ordering.{int_cmp, nat_cmp};
@@ -44,6 +45,13 @@ pub fn decimal_bytes_sort_as_numbers(x: i128, y: i128)
 {
     let _ = x;
     let _ = y;
+}
+
+/// What stores the values of a type holds the storage of each.
+pub fn storages_fit(logical: LogicalType)
+    ensures { (z : ℤ) → IsStorageOf logical z → FitsStorage (storage_type_of logical) z }
+{
+    let _ = logical;
 }
 
 /// A word writes one value of a type: so what is written is read as the same.
