@@ -113,7 +113,7 @@ pub fn logical_type_of_extension(
     ensures none { IfNone result ((l : LogicalType) → ¬ (IsExtension id.now metadata.now storage l)) }
 {
     for logical in plain_types() {
-        if is_extension(logical, id, metadata, storage) {
+        if is_extension_of(logical, id, metadata, storage) {
             return Some(logical);
         }
     }
@@ -121,15 +121,20 @@ pub fn logical_type_of_extension(
         return None;
     };
     let logical = LogicalType::Decimal(DecimalType::new(*precision, *scale)?);
-    if is_extension(logical, id, metadata, storage) {
+    if is_extension_of(logical, id, metadata, storage) {
         Some(logical)
     } else {
         None
     }
 }
 
-/// Whether an extension is that of a type.
-fn is_extension(logical: LogicalType, id: &str, metadata: &[u8], storage: StorageType) -> bool
+/// Whether an extension is that of a type: by its id, metadata and storage.
+pub fn is_extension_of(
+    logical: LogicalType,
+    id: &str,
+    metadata: &[u8],
+    storage: StorageType,
+) -> bool
     ensures { IsTrue result ↔ IsExtension id.now metadata.now storage logical }
 {
     id == extension_id(logical)

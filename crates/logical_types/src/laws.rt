@@ -1,7 +1,8 @@
 // SPDX-License-Identifier: Apache-2.0
 //! Laws of words, each the contract of a function that does nothing.
 
-ghost use Rattle.std.specs.Prelude.{◌≡◌, ◌<◌, ◌^◌, ℕ, ℤ, List, Some, unsigned_abs};
+ghost use mir.Syntax.{w128};
+ghost use Rattle.std.specs.Prelude.{◌≡◌, ◌<◌, ◌^◌, FitsSigned, ℕ, ℤ, List, Some, unsigned_abs};
 ghost use Rattle.logical_types.specs.DecimalWorth.{IsWorth};
 ghost use Rattle.logical_types.specs.Decimals.{decimal_text, decimal_value};
 ghost use Rattle.logical_types.specs.Extensions.{FitsStorage, storage_type_of};
@@ -40,12 +41,10 @@ pub fn places_are_exact(decimal: DecimalType)
 }
 
 /// The 16 bytes of numbers sort as the numbers do.
-pub fn decimal_bytes_sort_as_numbers(x: i128, y: i128)
-    ensures { slice_cmp nat_cmp (decimal_bytes x) (decimal_bytes y) ≡ int_cmp x y }
-{
-    let _ = x;
-    let _ = y;
-}
+pub fn decimal_bytes_sort_as_numbers()
+    ensures { (x y : ℤ) → FitsSigned w128 x → FitsSigned w128 y
+        → slice_cmp nat_cmp (decimal_bytes x) (decimal_bytes y) ≡ int_cmp x y }
+{}
 
 /// What stores the values of a type holds the storage of each.
 pub fn storages_fit(logical: LogicalType)

@@ -22,7 +22,8 @@ pub use decimals::{
     text_of_decimal,
 };
 pub use extensions::{
-    StorageType, extension_id, extension_metadata, logical_type_of_extension, storage_type,
+    StorageType, extension_id, extension_metadata, is_extension_of, logical_type_of_extension,
+    storage_type,
 };
 pub use floats::{
     f32_storage_of_parts, f32_storage_of_word, f64_storage_of_parts, f64_storage_of_word,

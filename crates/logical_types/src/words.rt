@@ -22,6 +22,7 @@ use std::alloc::{AllocError, Global};
 pub fn storage_of_word(logical: LogicalType, word: &[u8]) -> Option<i128>
     ensures some { IfSome result (λ z. Writes logical word.now z) }
     ensures none { IfNone result ((z : ℤ) → ¬ (Writes logical word.now z)) }
+    ensures valid { IfSome result (IsStorageOf logical) }
 {
     match logical {
         LogicalType::Float64 => match f64_storage_of_word(word) {

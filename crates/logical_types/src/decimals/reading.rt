@@ -1,7 +1,7 @@
 // SPDX-License-Identifier: Apache-2.0
 //! Words of decimals, read.
 
-ghost use Rattle.std.specs.Prelude.{◌≡◌, ◌<◌, ◌≤◌, ◌+◌, ◌*◌, ◌^◌, IfNone, IfSome, false};
+ghost use Rattle.std.specs.Prelude.{◌≡◌, ◌<◌, ◌≤◌, ◌+◌, ◌*◌, ◌^◌, IfNone, IfSome, false, unsigned_abs};
 ghost use Rattle.logical_types.specs.Decimals.{decimal_value, fraction_from, scaled, whole_from};
 
 use crate::logical::DecimalType;
@@ -111,7 +111,8 @@ fn whole_from(limit: u128, scale: u8, digits: &[u8]) -> Option<u128>
 fn decimal_below(limit: u128, scale: u8, word: &[u8]) -> Option<i128>
     requires small { limit ≤ 10 ^ 38 }
     requires some { 0 < limit }
-    ensures { result ≡ decimal_value limit scale word.now }
+    ensures value { result ≡ decimal_value limit scale word.now }
+    ensures below { IfSome result (λ z. unsigned_abs z < limit) }
 {
     match word {
         [b'-', digits @ ..] => match whole_from(limit, scale, digits) {
@@ -128,7 +129,8 @@ fn decimal_below(limit: u128, scale: u8, word: &[u8]) -> Option<i128>
 /// The number that the word writes, times 10 ^ scale. None if it is no such number, if it has digits
 /// that the scale has no place for, or if it has more digits than the precision.
 pub fn decimal_of_word(decimal: DecimalType, word: &[u8]) -> Option<i128>
-    ensures { result ≡ decimal_value (10 ^ decimal.precision) decimal.scale word.now }
+    ensures value { result ≡ decimal_value (10 ^ decimal.precision) decimal.scale word.now }
+    ensures below { IfSome result (λ z. unsigned_abs z < 10 ^ decimal.precision) }
 {
     decimal_below(decimal.limit(), decimal.scale, word)
 }
