@@ -2,7 +2,8 @@
 //! Logical types as extensions: their ids, metadata and storages, and back.
 
 ghost use Rattle.std.specs.Prelude.{◌≡◌, ◌↔◌, IfNone, IfSome, IsTrue};
-ghost use Rattle.logical_types.specs.Extensions.{HasMetadata, HasZone, IsExtension, id_of, metadata_of, storage_type_of, time_storage, unit_byte};
+ghost use Rattle.logical_types.specs.Extensions.{HasMetadata, HasZone, IsExtension, id_of, metadata_of};
+ghost use Rattle.logical_types.specs.Extensions.{storage_type_of, time_storage, unit_byte};
 ghost use Rattle.logical_types.specs.declared.logical.LogicalType.{LogicalType};
 ghost use Rattle.logical_types.specs.declared.logical.LogicalType.TheVariants as LogicalTypes;
 

@@ -3,7 +3,8 @@
 
 ghost use Rattle.std.specs.Prelude.{◌≡◌, ◌↔◌, ◌*ℤ◌, ℤ, Some, IfNone, IfSome, IsSome, pos, slice_index};
 ghost use Rattle.jiff_core.specs.DateTime.{civil_nanos};
-ghost use Rattle.logical_types.specs.Times.{IsTimestamp, IsTimestampWord, has_separators, moment_written, nanoseconds_of};
+ghost use Rattle.logical_types.specs.Times.{IsTimestamp, IsTimestampWord};
+ghost use Rattle.logical_types.specs.Times.{has_separators, moment_written, nanoseconds_of};
 
 use arrayvec::ArrayString;
 use jiff_core::civil::DateTime;
