@@ -1,7 +1,7 @@
 -- What is written is read.
 use Rattle.std.proofs.Common.{◌≡◌, ℕ, zero, suc, ◌+◌, ◌-◌, ◌*◌, ◌/◌, ◌%◌, ◌^◌, ◌<◌, ◌≤◌, ◌==◌, ℤ, pos, negsuc, Bool, true, false, nat_lt, List, [], ◌∷◌, ◌++◌, Some, None, refl, sym, ap, ◌∙◌, arith, append_assoc, append-nil, mul-one, unsigned_abs, if◌then◌else◌, slice_index}
 use Rattle.std.proofs.lemmas.Bool.Decides.{nat_tests}
-use Rattle.std.proofs.lemmas.Fmt.{decimal_by_steps}
+use Rattle.std.proofs.lemmas.Fmt.{decimal_by_steps_wide}
 use Rattle.std.proofs.Math.Nat.{pow-le-pow_right}
 use native.Mathlib.Nat.{pow-suc, mul-le-mul_left}
 use Rattle.std.specs.Char.{is_ascii_digit}
@@ -41,12 +41,12 @@ more_digits limit scale n ds h reads rest l =
     ∙ reads ((48 + n % 10) ∷ rest) (omega arith)
     ∙ whole_step limit scale true (n / 10) (n % 10) n rest (omega arith) (omega arith) l
 
-read_decimal : (limit scale n : ℕ) → n < 2 ^ 64 → Reads limit scale n (decimal n)
+read_decimal : (limit scale n : ℕ) → n < 10 ^ 64 → Reads limit scale n (decimal n)
 read_decimal limit scale n h =
-    decimal_by_steps (Reads limit scale) (λ d k rest l. whole_step limit scale false 0 d d rest k (omega arith) l) (more_digits limit scale) n h
+    decimal_by_steps_wide (Reads limit scale) (λ d k rest l. whole_step limit scale false 0 d d rest k (omega arith) l) (more_digits limit scale) n h
 
 -- with so many places written behind the point
-read_sized : (limit scale k n : ℕ) (rest : List ℕ) → k ≤ scale → n < limit → n < 2 ^ 64
+read_sized : (limit scale k n : ℕ) (rest : List ℕ) → k ≤ scale → n < limit → n < 10 ^ 64
     → (some : Bool) × (whole_from limit scale false 0 (sized_text k (46 ∷ []) n ++ rest) ≡ fraction_from limit (scale - k) some n rest) × (0 < k → some ≡ true)
 read_sized limit scale zero n rest a b h = (
   false,
@@ -67,7 +67,7 @@ read_sized limit scale (suc k) n rest a b h =
 none_scaled : (limit n : ℕ) → n < limit → scaled limit 0 n ≡ Some n
 none_scaled limit n h = let e : n * 10 ^ 0 ≡ n = mul-one n in rw (e, fits_in n limit h)
 
-read_text : (limit scale n : ℕ) → n < limit → n < 2 ^ 64 → whole_from limit scale false 0 (sized_text scale (point_text scale) n) ≡ Some n
+read_text : (limit scale n : ℕ) → n < limit → n < 10 ^ 64 → whole_from limit scale false 0 (sized_text scale (point_text scale) n) ≡ Some n
 read_text limit zero n h l =
     read_decimal limit 0 n l [] h ∙ none_scaled limit n h
 read_text limit (suc k) n h l =
@@ -90,12 +90,20 @@ no_minus limit scale n (c ∷ cs) h = go (c == 45) refl
     go false e = refl
     go true e = let k : c ≡ 45 = grind (arith, nat_tests) in let g : whole_from limit scale false 0 (45 ∷ cs) ≡ Some n = ap (λ (x : ℕ). whole_from limit scale false 0 (x ∷ cs)) (sym k) ∙ h in cc
 
-pub read_back : (limit scale : ℕ) (z : ℤ) → unsigned_abs z < limit → unsigned_abs z < 2 ^ 64 → decimal_value limit scale (decimal_text scale z) ≡ Some z
+pub read_back : (limit scale : ℕ) (z : ℤ) → unsigned_abs z < limit → unsigned_abs z < 10 ^ 64 → decimal_value limit scale (decimal_text scale z) ≡ Some z
 read_back limit scale (pos n) h l =
     let r = read_text limit scale n h l in
     let m = no_minus limit scale n (sized_text scale (point_text scale) n) r in
     rw (m, r)
 read_back limit scale (negsuc n) h l = let r = read_text limit scale (suc n) h l in rw r
+
+-- the limit of a decimal type
+pub limit_small : (p : ℕ) → p ≤ 38 → 10 ^ p ≤ 10 ^ 38
+limit_small p h = pow-le-pow_right (omega arith) h
+
+pub limit_some : (p : ℕ) → 0 < 10 ^ p
+limit_some zero = omega arith
+limit_some (suc p) = let i = limit_some p in let e : 10 ^ suc p ≡ 10 ^ p * 10 = pow-suc 10 p in omega arith
 
 -- ---- zeros behind a value
 pub scaled_some : (limit places value p : ℕ) → p ≡ value * 10 ^ places → p < limit → Some p ≡ scaled limit places value

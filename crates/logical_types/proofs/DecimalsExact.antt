@@ -7,6 +7,7 @@ use Rattle.std.specs.Option.{option_map}
 use Rattle.std.specs.Str.Parse.{AllDigits, digits_value_after}
 use Rattle.logical_types.specs.DecimalWorth.{IsWorth, after_point}
 use Rattle.logical_types.specs.Decimals.{scaled, fraction_from, whole_from, decimal_value}
+use Rattle.logical_types.specs.Places.{number_at}
 
 chosen : (b : Bool) (x y : Option ℕ) (m : ℕ) → (if b then x else y) ≡ Some m → ((b ≡ true) × (x ≡ Some m)) ⊎ ((b ≡ false) × (y ≡ Some m))
 chosen true x y m h = inl (refl, h)
@@ -167,4 +168,12 @@ exact limit scale word z h =
           let found = mapped pos (whole_from limit scale false 0 word) z e in
           let n = number_is limit 0 found.0 scale false word found.1 in
           record { negative = false; whole = n.whole; fraction = n.fraction; text = n.text; digits = n.digits; some = n.any refl; size = found.0; signed = found.2; worth = n.worth }
+    ]
+
+-- the same of a number in at most 38 digits
+pub number_exact : (scale : ℕ) (word : List ℕ) (z : ℤ) → number_at scale word ≡ Some z → IsWorth scale word z
+number_exact scale word z h =
+    elim (chosen_z (nat_lt 38 scale) _ _ z h) [
+      | inl (_, e) ↦ absurd (let k : None ≡ Some z = e in cc)
+      | inr (_, e) ↦ exact (10 ^ 38) scale word z e
     ]

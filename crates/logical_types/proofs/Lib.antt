@@ -1,6 +1,11 @@
+mod ClockWords
 mod DateWords
 mod DecimalsBack
 mod DecimalsExact
 mod FloatWords
+mod NamesBack
 mod OneValue
+mod PlacesShown
+mod StoragesFit
 mod TimestampWords
+mod WideBytes

@@ -11,6 +11,10 @@ use Rattle.float_storage.specs.Storage.{infinity, storage_of}
 abbrev pub has_digit : List ℕ → Bool
 has_digit word = list_any is_ascii_digit word
 
+-- the storage z, unless it is an infinity's
+abbrev pub finite : Format → ℤ → Option ℤ
+finite f z = if unsigned_abs z == infinity f then None else Some z
+
 -- the storage z, unless it is an infinity's and the word writes a number
 abbrev pub bounded : Format → List ℕ → ℤ → Option ℤ
 bounded f word z = if (unsigned_abs z == infinity f) && has_digit word then None else Some z

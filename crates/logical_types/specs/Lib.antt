@@ -1,6 +1,11 @@
+pub mod Clock
 pub mod Days
 pub mod DecimalWorth
 pub mod Decimals
+pub mod Extensions
 pub mod Floats
+pub mod Names
+pub mod Places
+pub mod Storing
 pub mod Times
 pub mod Words

@@ -13,6 +13,7 @@ use jiff_fmt::temporal::{DateTimePrinter, parse_date};
 pub fn day_of_word(word: &[u8]) -> Option<i32>
     ensures some { IfSome result (IsDayWord word.now) }
     ensures none { IfNone result ((day : ℤ) → ¬ (IsDayWord word.now day)) }
+    ensures valid { IfSome result IsEpochDay }
 {
     match parse_date(word) {
         Ok(date) => {

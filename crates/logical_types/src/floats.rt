@@ -1,10 +1,11 @@
 // SPDX-License-Identifier: Apache-2.0
 //! Words of floats: the storage of the float that one writes, and a word for each storage.
 
-ghost use Rattle.std.specs.Prelude.{◌≡◌, ◌≤◌, IsAscii, Some, length};
+ghost use Rattle.std.specs.Prelude.{◌≡◌, ◌≤◌, IfSome, IsAscii, Some, length};
 ghost use Rattle.std.specs.Float.{binary32, binary64};
-ghost use Rattle.float_storage.specs.Storage.{IsStorage};
-ghost use Rattle.logical_types.specs.Floats.{has_digit, storage_written};
+ghost use Rattle.float_storage.specs.Storage.{IsStorage, storage_of};
+ghost use Rattle.logical_types.specs.Floats.{finite, has_digit, storage_written};
+ghost use Rattle.fast_float.specs.Rounding.{nearest_to_decimal};
 
 use float_storage::{f32_of_storage, f64_of_storage, storage_of_f32, storage_of_f64};
 use ryu::Buffer;
@@ -19,7 +20,8 @@ const INFINITY_32: i32 = 0x7f80_0000;
 /// in any case, each perhaps with a sign. None of any other word, and of a number so great that the
 /// nearest is infinity.
 pub fn f64_storage_of_word(word: &[u8]) -> Option<i64>
-    ensures { result ≡ storage_written binary64 word.now }
+    ensures value { result ≡ storage_written binary64 word.now }
+    ensures within { IfSome result (IsStorage binary64) }
 {
     let storage = match fast_float::parse::<f64, &[u8]>(word) {
         Ok(number) => storage_of_f64(number),
@@ -35,7 +37,8 @@ pub fn f64_storage_of_word(word: &[u8]) -> Option<i64>
 
 /// The same for f32.
 pub fn f32_storage_of_word(word: &[u8]) -> Option<i32>
-    ensures { result ≡ storage_written binary32 word.now }
+    ensures value { result ≡ storage_written binary32 word.now }
+    ensures within { IfSome result (IsStorage binary32) }
 {
     let storage = match fast_float::parse::<f32, &[u8]>(word) {
         Ok(number) => storage_of_f32(number),
@@ -43,6 +46,37 @@ pub fn f32_storage_of_word(word: &[u8]) -> Option<i32>
     };
     let is_infinite = storage == INFINITY_32 || storage == -INFINITY_32;
     if is_infinite && has_digit(word) {
+        None
+    } else {
+        Some(storage)
+    }
+}
+
+/// The storage of the f64 nearest to digits * 10 ^ exponent, negated if the number is negative. None if
+/// the nearest is infinity.
+pub fn f64_storage_of_parts(is_negative: bool, digits: u64, exponent: i64) -> Option<i64>
+    ensures value { result ≡ finite binary64
+        (storage_of binary64 (nearest_to_decimal binary64 is_negative digits exponent)) }
+    ensures within { IfSome result (IsStorage binary64) }
+{
+    let number: f64 = fast_float::from_parts(is_negative, digits, exponent);
+    let storage = storage_of_f64(number);
+    if storage == INFINITY_64 || storage == -INFINITY_64 {
+        None
+    } else {
+        Some(storage)
+    }
+}
+
+/// The same for f32.
+pub fn f32_storage_of_parts(is_negative: bool, digits: u64, exponent: i64) -> Option<i32>
+    ensures value { result ≡ finite binary32
+        (storage_of binary32 (nearest_to_decimal binary32 is_negative digits exponent)) }
+    ensures within { IfSome result (IsStorage binary32) }
+{
+    let number: f32 = fast_float::from_parts(is_negative, digits, exponent);
+    let storage = storage_of_f32(number);
+    if storage == INFINITY_32 || storage == -INFINITY_32 {
         None
     } else {
         Some(storage)

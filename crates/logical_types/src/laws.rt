@@ -1,25 +1,56 @@
 // SPDX-License-Identifier: Apache-2.0
 //! Laws of words, each the contract of a function that does nothing.
 
-ghost use Rattle.std.specs.Prelude.{◌≡◌, ◌<◌, ℕ, ℤ, List, Some, unsigned_abs};
+ghost use mir.Syntax.{w128};
+ghost use Rattle.std.specs.Prelude.{◌≡◌, ◌<◌, ◌^◌, FitsSigned, ℕ, ℤ, List, Some, unsigned_abs};
 ghost use Rattle.logical_types.specs.DecimalWorth.{IsWorth};
 ghost use Rattle.logical_types.specs.Decimals.{decimal_text, decimal_value};
-ghost use Rattle.logical_types.specs.Words.{Writes};
+ghost use Rattle.logical_types.specs.Extensions.{FitsStorage, storage_type_of};
+ghost use Rattle.logical_types.specs.Places.{IsPlaceOfWord, fine_scale};
+ghost use Rattle.logical_types.specs.Storing.{decimal_bytes};
+ghost use Rattle.logical_types.specs.Words.{IsStorageOf, Writes};
+ghost use Rattle.logical_types.specs.declared.decimals.places.DecimalPlace.{DecimalPlace};
+ghost use Rattle.std.specs.Cmp.Lexicographic.{slice_cmp};
+ghost use Rattle.std.specs.Ordering.{int_cmp, nat_cmp};
 
-use crate::logical::LogicalType;
+use crate::logical::{DecimalType, LogicalType};
 
 /// What is written of a number is read as that number.
-pub fn decimals_read_back(limit: u64, scale: u8, number: i64)
-    ensures { unsigned_abs number < limit
-        → decimal_value limit scale (decimal_text scale number) ≡ Some number }
-{}
+pub fn decimals_read_back(decimal: DecimalType, number: i128)
+    ensures { unsigned_abs number < 10 ^ decimal.precision
+        → decimal_value (10 ^ decimal.precision) decimal.scale (decimal_text decimal.scale number) ≡ Some number }
+{
+    let _ = decimal;
+    let _ = number;
+}
 
 /// A word that is read writes the number, times 10 ^ scale, exactly.
-pub fn decimals_are_exact(limit: u64, scale: u8)
-    ensures { (word : List ℕ) (z : ℤ) → decimal_value limit scale word ≡ Some z → IsWorth scale word z }
+pub fn decimals_are_exact(decimal: DecimalType)
+    ensures { (word : List ℕ) (z : ℤ) → decimal_value (10 ^ decimal.precision) decimal.scale word ≡ Some z
+        → IsWorth decimal.scale word z }
 {
-    let _ = limit;
-    let _ = scale;
+    let _ = decimal;
+}
+
+/// The number that lies among the values of a type is exactly the one that the word writes.
+pub fn places_are_exact(decimal: DecimalType)
+    ensures { (word : List ℕ) (place : DecimalPlace) (h : IsPlaceOfWord decimal word place)
+        → IsWorth (fine_scale decimal.scale word) word h.number }
+{
+    let _ = decimal;
+}
+
+/// The 16 bytes of numbers sort as the numbers do.
+pub fn decimal_bytes_sort_as_numbers()
+    ensures { (x y : ℤ) → FitsSigned w128 x → FitsSigned w128 y
+        → slice_cmp nat_cmp (decimal_bytes x) (decimal_bytes y) ≡ int_cmp x y }
+{}
+
+/// What stores the values of a type holds the storage of each.
+pub fn storages_fit(logical: LogicalType)
+    ensures { (z : ℤ) → IsStorageOf logical z → FitsStorage (storage_type_of logical) z }
+{
+    let _ = logical;
 }
 
 /// A word writes one value of a type: so what is written is read as the same.

@@ -3,8 +3,8 @@
 
 ghost use Rattle.std.specs.Prelude.{◌≡◌, ◌↔◌, ◌*ℤ◌, ℤ, Some, IfNone, IfSome, IsSome, pos, slice_index};
 ghost use Rattle.jiff_core.specs.DateTime.{civil_nanos};
-ghost use Rattle.logical_types.specs.Times.{IsTimestamp, IsTimestampWord, has_separators, moment_written};
-ghost use Rattle.logical_types.specs.Times.{nanoseconds_of};
+ghost use Rattle.logical_types.specs.Times.{IsTimestamp, IsTimestampWord};
+ghost use Rattle.logical_types.specs.Times.{has_separators, moment_written, nanoseconds_of};
 
 use arrayvec::ArrayString;
 use jiff_core::civil::DateTime;
@@ -75,7 +75,7 @@ fn word_of_civil(is_zoned: bool, civil: DateTime) -> ArrayString<33>
 }
 
 /// The moment that a word writes, in nanoseconds since 1970-01-01T00:00:00.
-fn moment_of_word(is_zoned: bool, word: &[u8]) -> Option<i128>
+pub(crate) fn moment_of_word(is_zoned: bool, word: &[u8]) -> Option<i128>
     ensures { result ≡ moment_written is_zoned word.now }
 {
     if !has_separators(word) {

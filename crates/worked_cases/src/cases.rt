@@ -17,6 +17,7 @@ fn answer_line<'a>(run: Run<'a>, line: &'a [u8]) -> Result<AnsweredLine<'a>, All
     scalar_calls::answer(&mut line);
     statistics_calls::answer(&mut line);
     filter_calls::answer(&mut line);
+    logical_calls::answer(&mut line);
     let expected = line.expected();
     Ok(AnsweredLine {
         answer: line.into_answer()?,

@@ -12,7 +12,7 @@ fn push_sized(
     text: &mut String,
     places: u8,
     point: &str,
-    number: u64,
+    number: u128,
 ) -> Result<(), AllocError>
     ensures { OnOk result (string_bytes text.new ≡ string_bytes text.old ++ sized_text places point.now number) }
 {
@@ -26,7 +26,7 @@ fn push_sized(
 }
 
 /// The word of a number at a scale.
-pub fn text_of_decimal(alloc: Global, number: i64, scale: u8) -> Result<String, AllocError>
+pub fn text_of_decimal(alloc: Global, number: i128, scale: u8) -> Result<String, AllocError>
     ensures { IfOk result (λ text. string_bytes text ≡ decimal_text scale number) }
 {
     let mut text = String::new(alloc);
