@@ -64,6 +64,26 @@ def has_variant(dtype):
     return isinstance(dtype, Variant) or any(map(has_variant, types_in(dtype)))
 
 
+def has_present(dtype):
+    """Whether the type has a value that is no null: a union without variants has none."""
+    match dtype:
+        case Null() | Variant():
+            return False
+        case Sized(element, size, _):
+            return size == 0 or has_value(element)
+        case Struct(_, types, _):
+            return all(map(has_value, types))
+        case UnionOf(_, _, types, _):
+            return any(map(has_value, types))
+        case Extension(_, _, storage):
+            return has_present(storage)
+    return True
+
+
+def has_value(dtype):
+    return is_nullable(dtype) or has_present(dtype)
+
+
 # Keys
 
 
@@ -180,6 +200,8 @@ class Reader:
         return self.value(dtype)
 
     def value(self, dtype):
+        if not has_present(dtype):
+            raise BadKey(self.place)
         match dtype:
             case Bool():
                 return self.take(lambda byte: byte in (2, 3)) == 3
@@ -195,12 +217,11 @@ class Reader:
                 return self.value(storage)
             case UnionOf(ids, _, types, _):
                 self.expect(24)
-                id = self.take(lambda byte: byte in ids)
+                id = self.take(lambda byte: byte in ids and has_value(types[ids.index(byte)]))
                 return Union(id, self.optional(types[ids.index(id)]))
             case ListOf() | Sized() | Map() | Struct():
                 self.expect(23)
                 return self.parts(dtype)
-        self.take(lambda byte: False)
 
     def parts(self, dtype):
         match dtype:
@@ -212,6 +233,8 @@ class Reader:
             case Map(of_key, of_value, _, _):
                 made = []
                 while not self.at_end():
+                    if not (has_value(of_key) and has_value(of_value)):
+                        raise BadKey(self.place)
                     self.expect(23)
                     made.append([self.optional(of_key), self.optional(of_value)])
                     self.expect(0)
@@ -247,6 +270,8 @@ def decoded(dtype, data, options=PLAIN, place=0):
 
 
 def decoded_row(types, data, options):
+    if not all(map(has_value, types)):
+        raise BadKey(0)
     values, place = [], 0
     for dtype, each in zip(types, options):
         value, place = decoded(dtype, data, each, place)

@@ -579,7 +579,7 @@ static void filters_that_nest(void) {
         CHECK(doqallin_filter_outcomes(encoding, length, buffer, 0, starts, 2, 32, buffer, 1, &fault) == DOQALLIN_GIVEN && buffer[0] & 1 << (part == 1 || part == 2 ? 2 : 0));
     }
     // Here each level of the words is two of the encoding, and the first is seven: no more can be.
-    char words[2048] = "not n not between -99999 and 99999 and n = 1 or n = 1", deeper[2048];
+    char words[2048] = "not n not between -99999 and 99999 and n = 1 or n = 1", deeper[sizeof words + 22];
     for (size_t level = 1; level <= 32; level++) {
         size_t length;
         CHECK(doqallin_prepare_filter((const uint8_t *)words, strlen(words), schema, 1, level - 1, encoding, sizeof encoding, &length, &mistake) == DOQALLIN_BAD_FILTER);

@@ -33,6 +33,46 @@ fn has_variant(dtype: &DType) -> bool {
     }
 }
 
+/// Whether a variant stands in the value, at any depth.
+fn holds_variant(value: Option<&ScalarValue>) -> bool {
+    match value {
+        Some(ScalarValue::Variant(_)) => true,
+        Some(ScalarValue::Tuple(parts)) => parts.iter().any(|part| holds_variant(part.as_ref())),
+        Some(ScalarValue::Union(union)) => holds_variant(union.child_value()),
+        _ => false,
+    }
+}
+
+/// Whether a union without variants stands in the type, at any depth: then types may have no value.
+fn has_empty_union(dtype: &DType) -> bool {
+    match dtype {
+        DType::List(element, _) | DType::FixedSizeList(element, ..) => has_empty_union(element),
+        DType::Map(map, _) => has_empty_union(map.key_dtype()) || has_empty_union(map.value_dtype()),
+        DType::Struct(fields, _) => fields.dtypes().iter().any(has_empty_union),
+        DType::Union(variants, _) => {
+            variants.dtypes().is_empty() || variants.dtypes().iter().any(has_empty_union)
+        }
+        DType::Extension(ext) => has_empty_union(ext.storage_dtype()),
+        _ => false,
+    }
+}
+
+fn has_value(dtype: &DType) -> bool {
+    dtype.is_nullable() || has_present(dtype)
+}
+
+/// Whether the type has a value that is no null.
+fn has_present(dtype: &DType) -> bool {
+    match dtype {
+        DType::FixedSizeList(element, size, _) => *size == 0 || has_value(element),
+        DType::Struct(fields, _) => fields.dtypes().iter().all(has_value),
+        DType::Union(variants, _) => variants.dtypes().iter().any(has_value),
+        DType::Extension(ext) => has_present(ext.storage_dtype()),
+        DType::Null | DType::Variant(_) => false,
+        _ => true,
+    }
+}
+
 // Keys
 
 pub fn append_key(scalar: &Scalar, options: SortOptions, out: &mut Vec<u8>) -> KeyResult<()> {
@@ -45,7 +85,7 @@ pub fn append_raw_key(
     options: SortOptions,
     out: &mut Vec<u8>,
 ) -> KeyResult<()> {
-    if has_variant(dtype) {
+    if has_variant(dtype) || holds_variant(value) {
         return Err(KeyError::HasVariant);
     }
     out.reserve(key_length(value));
@@ -59,7 +99,8 @@ pub fn append_row_key(
     out: &mut Vec<u8>,
 ) -> KeyResult<()> {
     same_length(options.len(), row.len())?;
-    if row.iter().any(|scalar| has_variant(scalar.dtype())) {
+    let is_held = |scalar: &&Scalar| has_variant(scalar.dtype()) || holds_variant(scalar.value());
+    if row.iter().any(is_held) {
         return Err(KeyError::HasVariant);
     }
     append_columns(row, options, out);
@@ -82,6 +123,9 @@ impl<'a> RowEncoder<'a> {
 
     pub fn append(&self, row: &[&Scalar], out: &mut Vec<u8>) -> KeyResult<()> {
         same_length(self.options.len(), row.len())?;
+        if row.iter().any(|scalar| holds_variant(scalar.value())) {
+            return Err(KeyError::HasVariant);
+        }
         append_columns(row, self.options, out);
         Ok(())
     }
@@ -223,6 +267,7 @@ pub fn decode_key(dtype: &DType, options: SortOptions, bytes: &[u8]) -> KeyResul
         bytes,
         at: 0,
         mask: if options.descending { 255 } else { 0 },
+        is_sparse: has_empty_union(dtype),
     };
     let null = if options.nulls_first { 1 } else { 255 };
     let value = if bytes.first() == Some(&null) {
@@ -242,6 +287,7 @@ struct Decoder<'a> {
     bytes: &'a [u8],
     at: usize,
     mask: u8,
+    is_sparse: bool,
 }
 
 impl Decoder<'_> {
@@ -282,6 +328,9 @@ impl Decoder<'_> {
     }
 
     fn value(&mut self, dtype: &DType) -> KeyResult<ScalarValue> {
+        if self.is_sparse && !has_present(dtype) {
+            return Err(self.bad());
+        }
         match dtype {
             DType::Null | DType::Variant(_) => {
                 self.peek()?;
@@ -310,8 +359,12 @@ impl Decoder<'_> {
                 let Some(place) = variants.tag_to_child_index(id) else {
                     return Err(self.bad());
                 };
+                let dtype = &variants.dtypes()[place];
+                if self.is_sparse && !has_value(dtype) {
+                    return Err(self.bad());
+                }
                 self.at += 1;
-                let child = self.optional(&variants.dtypes()[place])?;
+                let child = self.optional(dtype)?;
                 Ok(ScalarValue::Union(UnionValue::new(id, child)))
             }
             _ => {
@@ -332,7 +385,11 @@ impl Decoder<'_> {
                 return Ok(parts);
             }
             DType::Map(map, _) => {
+                let has_entry = has_value(map.key_dtype()) && has_value(map.value_dtype());
                 while !self.takes(0)? {
+                    if self.is_sparse && !has_entry {
+                        return Err(self.bad());
+                    }
                     self.need(23)?;
                     let key = self.optional(map.key_dtype())?;
                     let value = self.optional(map.value_dtype())?;

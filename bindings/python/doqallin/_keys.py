@@ -128,7 +128,8 @@ class _Made:
         self.offsets = new_offsets(rows + 1 if self.is_text else 0)
 
     def raw(self) -> ColumnBuffers:
-        each = ((ctypes.addressof(buffer), len(buffer)) for buffer in (self.validity, self.values, self.offsets))
+        buffers: list[ctypes.Array[Any]] = [self.validity, self.values, self.offsets]
+        each = ((ctypes.addressof(buffer), len(buffer)) for buffer in buffers)
         return ColumnBuffers(*(part for pair in each for part in pair), 0)
 
     def column(self, count: int) -> Column:

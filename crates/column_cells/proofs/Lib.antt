@@ -1,4 +1,5 @@
 mod CellLaws
 mod ContentLaws
 mod KindRanges
+pub mod TableSteps
 mod TypeLaws

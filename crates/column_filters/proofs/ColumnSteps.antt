@@ -1,12 +1,10 @@
 -- Steps of reading the columns that a filter is asked of.
-use Rattle.std.proofs.Common.{◌≡◌, ℕ, ◌+◌, ◌<◌, ◌≤◌, ◌⊎◌, inl, inr, List, [], ◌∷◌, ◌++◌, length, take, get_or, map, refl, sym, subst, ap, ap₂, ◌∙◌, arith, Some, slice_get}
+use Rattle.std.proofs.Common.{◌≡◌, ℕ, ◌+◌, ◌<◌, List, [], ◌∷◌, ◌++◌, length, take, get_or, map, refl, sym, subst, ap, ap₂, ◌∙◌, arith}
 use Rattle.std.specs.Global.{Global}
 use Rattle.std.specs.Prelude.{slice_index_or, Result, Ok, Err, IsErr, IsErrAnd, IfErr, Vec}
 use Rattle.std.specs.List.{All}
-use Rattle.std.proofs.lemmas.Bool.{cases_lt}
 use Rattle.std.proofs.lemmas.List.{get_or-map, length-map, map-append, take_more}
 use Rattle.std.proofs.lemmas.List.Elements.{All-nil, All-push}
-use Rattle.std.proofs.lemmas.Option.{slice_get-get_or, same_Some}
 use Rattle.arrow_columns.specs.declared.columns.Column.{Column}
 use Rattle.arrow_columns.specs.declared.tested_rows.Rows.{Rows}
 use Rattle.vortex_dtype.specs.TypeOf.{type_of}
@@ -15,7 +13,8 @@ use Rattle.vortex_dtype.specs.declared.types.DType.{DType}
 use Rattle.vortex_value.specs.Values.Content.{Content, null}
 use Rattle.vortex_cells.specs.Cells.{Cell}
 use Rattle.column_cells.specs.Contents.{HasTexts, contents_of_rows}
-use Rattle.column_filters.specs.Tables.{AreColumnsOf, AreReadFrom, AreSoundBefore, IsErrorAt, IsReadFrom, IsSound, IsTableError, cell_of_column, cell_of_rows, cells_of_columns, cells_of_rows}
+use Rattle.column_cells.proofs.TableSteps.{first-error}
+use Rattle.column_filters.specs.Tables.{AreColumnsOf, AreReadFrom, AreSoundBefore, IsErrorAt, IsReadFrom, IsSoundAt, IsTableError, cell_of_column, cell_of_rows, cells_of_columns, cells_of_rows}
 use Rattle.column_filters.specs.declared.errors.MaskError.{MaskError}
 use Rattle.column_filters.specs.declared.errors.MaskError.TheVariants.{BufferTooSmall, OutOfMemory, TypesDiffer, Unreadable, WrongCount, WrongLength}
 
@@ -35,9 +34,6 @@ fault_typed types k u column count fault l is h = subst (λ t. IsErrorAt k colum
 pub read-none : (columns : List Column) (count : ℕ) → AreReadFrom columns count 0 []
 read-none columns count = record { cells = λ row. refl; rows = All-nil _ }
 
-pub sound-none : (columns : List Column) (types : List TypeTree) (count : ℕ) → AreSoundBefore columns types count 0
-sound-none columns types count j column less got = absurd (omega arith)
-
 -- one more
 
 same-cell : (row : ℕ) (column : Column) (t : TypeTree) (count : ℕ) (rows : Rows) → IsReadFrom column t count rows → cell_of_rows row rows ≡ cell_of_column row column
@@ -54,20 +50,6 @@ read-more columns t count k d table more rows here all one e = record {
   rows = subst (λ t. All (λ r. (length (contents_of_rows r) ≡ count) × HasTexts r) t) (sym e) (All-push (λ r. (length (contents_of_rows r) ≡ count) × HasTexts r) table rows all.rows (ap length one.contents ∙ one.sound.even, one.texts));
 }
 
-got-is : (columns : List Column) (k : ℕ) (d other : Column) → k < length columns → slice_get columns k ≡ Some other → get_or columns k d ≡ other
-got-is columns k d other here got = same_Some (get_or columns k d) other (sym (slice_get-get_or columns k d here) ∙ got)
-
-pub sound-more : (columns : List Column) (types : List TypeTree) (count k : ℕ) (d : Column) (rows : Rows) → k < length columns → AreSoundBefore columns types count k → IsReadFrom (get_or columns k d) (get_or types k null_type) count rows
-    → AreSoundBefore columns types count (k + 1)
-sound-more columns types count k d rows here all one j other less got = by_place (cases_lt j k)
-  where
-    by_place : (j < k) ⊎ (k ≤ j) → IsSound other (slice_index_or types j null_type) count
-    by_place (inl before) = all j other before got
-    by_place (inr after) =
-        let at : j ≡ k = omega arith in
-        let found : get_or columns k d ≡ other = got-is columns k d other here (subst (λ n. slice_get columns n ≡ Some other) at got) in
-        subst (λ c. IsSound c (slice_index_or types j null_type) count) found (subst (λ n. IsSound (get_or columns k d) (slice_index_or types n null_type) count) (sym at) one.sound)
-
 -- an error of a column is one of the table
 
 pub table-fault : (columns : List Column) (types : List TypeTree) (count k : ℕ) (d : Column) (fault : MaskError) → length columns ≡ length types → k < length columns → AreSoundBefore columns types count k
@@ -75,9 +57,9 @@ pub table-fault : (columns : List Column) (types : List TypeTree) (count k : ℕ
 table-fault columns types count k d OutOfMemory counts here all h = absurd h
 table-fault columns types count k d WrongCount counts here all h = absurd h
 table-fault columns types count k d BufferTooSmall counts here all h = absurd h
-table-fault columns types count k d (Unreadable place fault) counts here all h = (counts, (k, get_or columns k d, slice_get-get_or columns k d here, all, h))
-table-fault columns types count k d (TypesDiffer place) counts here all h = (counts, (k, get_or columns k d, slice_get-get_or columns k d here, all, h))
-table-fault columns types count k d (WrongLength place) counts here all h = (counts, (k, get_or columns k d, slice_get-get_or columns k d here, all, h))
+table-fault columns types count k d (Unreadable place fault) counts here all h = (counts, first-error (IsSoundAt types count) (λ j column. IsErrorAt j column (get_or types j null_type) count (Unreadable place fault)) columns k d here all h)
+table-fault columns types count k d (TypesDiffer place) counts here all h = (counts, first-error (IsSoundAt types count) (λ j column. IsErrorAt j column (get_or types j null_type) count (TypesDiffer place)) columns k d here all h)
+table-fault columns types count k d (WrongLength place) counts here all h = (counts, first-error (IsSoundAt types count) (λ j column. IsErrorAt j column (get_or types j null_type) count (WrongLength place)) columns k d here all h)
 
 pub table-fault-typed : (columns : List Column) (types : List DType) (count k : ℕ) (d : Column) (u : DType) (fault : MaskError) → length columns ≡ length types → k < length columns → u ≡ get_or types k u → AreSoundBefore columns (map type_of types) count k
     → IsErrorAt k (get_or columns k d) (type_of u) count fault → IsTableError columns (map type_of types) count fault
@@ -95,4 +77,4 @@ columns-of columns types count counts sound = record { counts = counts ∙ sym (
 pub other-count : (columns : List Column) (types : List DType) (count : ℕ) → ¬ (length columns ≡ length types) → IsTableError columns (map type_of types) count WrongCount
 other-count columns types count differ counts = differ (counts ∙ length-map types type_of)
 
-pub ruleset shown = (read-none, sound-none, columns-of, other-count)
+pub ruleset shown = (read-none, columns-of, other-count)

@@ -1,5 +1,5 @@
 -- Which rows match, as bits: that of row i stands in byte i / 8, from the least significant one on.
-use Rattle.std.specs.Prelude.{◌≡◌, ℕ, ◌+◌, ◌*◌, ◌/◌, ◌<◌, ◌≤◌, Bool, List, false, slice_index}
+use Rattle.std.specs.Prelude.{◌≡◌, ℕ, ◌*◌, ◌<◌, ◌≤◌, Bool, List, false, slice_index}
 use Rattle.arrow_columns.specs.Bitmaps.{bit_of, bitmap_length}
 use Rattle.vortex_cells.specs.Cells.{Cell}
 use Rattle.vortex_filter.specs.Formula.{Formula, is_match}

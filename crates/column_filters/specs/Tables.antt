@@ -1,5 +1,5 @@
 -- Columns of which a filter is asked, and why it cannot be.
-use Rattle.std.specs.Prelude.{◌≡◌, ◌≢◌, ℕ, ◌<◌, List, [], ◌∷◌, length, map, slice_get, slice_index_or, Some, take}
+use Rattle.std.specs.Prelude.{◌≡◌, ◌≢◌, ℕ, ◌<◌, List, length, map, slice_index_or, take}
 use Rattle.std.specs.List.{All}
 use Rattle.arrow_columns.specs.Checked.{AreRowsOf}
 use Rattle.arrow_columns.specs.Errors.{IsErrorOf}
@@ -9,6 +9,7 @@ use Rattle.vortex_dtype.specs.TypeTree.{Same, TypeTree, null_type}
 use Rattle.vortex_value.specs.Values.Content.{null}
 use Rattle.vortex_cells.specs.Cells.{Cell}
 use Rattle.column_cells.specs.Contents.{HasTexts, contents_of_column, contents_of_rows}
+use Rattle.column_cells.specs.Tables.{AreSoundTo, HasFirstError}
 use Rattle.column_cells.specs.Types.{type_of_column, type_of_rows}
 use Rattle.arrow_columns.specs.Bitmaps.{bitmap_length}
 use Rattle.column_filters.specs.declared.errors.MaskError.{MaskError}
@@ -47,9 +48,13 @@ pub record IsReadFrom (column : Column) (t : TypeTree) (count : ℕ) (rows : Row
   pub contents : contents_of_rows rows ≡ contents_of_column column
   pub texts : HasTexts rows
 
+-- the column at a place is sound for its type
+abbrev pub IsSoundAt : List TypeTree → ℕ → ℕ → Column → Type 0
+IsSoundAt types count k column = IsSound column (slice_index_or types k null_type) count
+
 -- the first columns are sound, and have so many rows
 abbrev pub AreSoundBefore : List Column → List TypeTree → ℕ → ℕ → Type 0
-AreSoundBefore columns types count k = (j : ℕ) (column : Column) → j < k → slice_get columns j ≡ Some column → IsSound column (slice_index_or types j null_type) count
+AreSoundBefore columns types count k = AreSoundTo (IsSoundAt types count) columns k
 
 -- each column has so many rows, and strings that are UTF-8
 abbrev pub HaveRows : List Rows → ℕ → Type 0
@@ -84,8 +89,7 @@ IsTableError columns types count OutOfMemory = length columns ≡ length types
 IsTableError columns types count WrongCount = length columns ≢ length types
 IsTableError columns types count BufferTooSmall = ⊥
 IsTableError columns types count fault =
-    (length columns ≡ length types)
-    × ((k : ℕ) × (column : Column) × (slice_get columns k ≡ Some column) × AreSoundBefore columns types count k × IsErrorAt k column (slice_index_or types k null_type) count fault)
+    (length columns ≡ length types) × HasFirstError (IsSoundAt types count) (λ k column. IsErrorAt k column (slice_index_or types k null_type) count fault) columns
 
 -- why there is no mask of so many bytes: for such a reason, or it is too short for the rows
 abbrev pub IsMaskError : List Column → List TypeTree → ℕ → ℕ → MaskError → Type 0

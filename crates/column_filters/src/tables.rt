@@ -52,7 +52,7 @@ fn read_column<'a>(
 /// column with an error gives it: `Unreadable`, `TypesDiffer` for cells of another type, up to
 /// nullability, and `WrongLength` for another number of rows. `OutOfMemory` may come in place of
 /// these, but not of `WrongCount`.
-#[tactic(auto, using(crate::proofs::ColumnSteps::shown))]
+#[tactic(auto, using(crate::proofs::ColumnSteps::shown, column_cells::proofs::TableSteps::shown))]
 pub fn read_columns<'a>(
     alloc: Global,
     columns: &[Column<'a>],

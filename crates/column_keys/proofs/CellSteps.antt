@@ -1,15 +1,14 @@
 -- The row that a key decodes to, or why there is none.
 use Rattle.std.specs.Global.{Global}
-use Rattle.std.proofs.Common.{◌≡◌, ◌≢◌, ◌∙◌, ℕ, ◌+◌, ◌<◌, inl, inr, List, [], ◌++◌, length, map, get_or, append-nil, refl, sym, subst, ap, arith}
+use Rattle.std.proofs.Common.{◌≡◌, ◌≢◌, ◌∙◌, ℕ, ◌+◌, ◌<◌, inl, inr, List, [], ◌++◌, length, map, append-nil, refl, sym, subst, ap, arith}
 use Rattle.std.specs.Prelude.{Result, Ok, Err, IsErr, IsErrAnd, IfErr, Vec, slice_index}
 use Rattle.std.proofs.lemmas.List.{length-append, nil_from_length}
 use Rattle.vortex_dtype.specs.TypeTree.{TypeTrees}
 use Rattle.vortex_value.specs.Values.Scalars.{scalar_raw}
 use Rattle.vortex_value.specs.declared.scalars.Scalar.{Scalar}
-use Rattle.vortex_value.specs.TypesWithin.{AllHaveVariants}
 use Rattle.vortex_row.specs.Decoded.{BeginsWithRow, IsDecodedRow, IsFirstBad, IsRowKeyOf, values_key}
 use Rattle.vortex_row.specs.declared.options.SortOptions.{SortOptions}
-use Rattle.column_keys.specs.Cells.{AreTyped, IsPlaced, IsRowOf, key_at, types_in}
+use Rattle.column_keys.specs.Cells.{IsPlaced, IsRowOf, key_at, types_in}
 use Rattle.column_keys.specs.Errors.{GoesOnAfter, IsRowReadError, IsWrongKey}
 use Rattle.column_keys.specs.declared.errors.KeysError.{KeysError}
 use Rattle.column_keys.specs.declared.errors.KeysError.TheVariants.{BadBytes, BadOffsets}
@@ -53,11 +52,9 @@ key-goes-on keys row key xs n placed is decoded more =
     } in
     (placed, (n, refl, subst (λ k. IsWrongKey keys.options.now (types_in keys) k n) is (inr after)))
 
-pub key-bad : (keys : RowKeys) (row : ℕ) (key : List ℕ) (p : ℕ) → AreTyped keys → IsPlaced keys.bytes.now keys.offsets.now row → key ≡ key_at keys.bytes.now keys.offsets.now row
-    → IsFirstBad (IsRowKeyOf keys.options.now (types_in keys)) (AllHaveVariants (types_in keys)) key p → IsRowReadError keys row (BadBytes (slice_index keys.offsets.now row + p))
-key-bad keys row key p typed placed is bad =
-    let first : IsFirstBad (IsRowKeyOf keys.options.now (types_in keys)) (Unit {0}) key p = record { within = bad.within; before = λ u. bad.before typed.filled; bad = bad.bad; no_key = bad.no_key } in
-    (placed, (p, refl, subst (λ k. IsWrongKey keys.options.now (types_in keys) k p) is (inl first)))
+pub key-bad : (keys : RowKeys) (row : ℕ) (key : List ℕ) (p : ℕ) → IsPlaced keys.bytes.now keys.offsets.now row → key ≡ key_at keys.bytes.now keys.offsets.now row
+    → IsFirstBad (IsRowKeyOf keys.options.now (types_in keys)) key p → IsRowReadError keys row (BadBytes (slice_index keys.offsets.now row + p))
+key-bad keys row key p placed is bad = (placed, (p, refl, subst (λ k. IsWrongKey keys.options.now (types_in keys) k p) is (inl bad)))
 
 pub not-placed : (keys : RowKeys) (row : ℕ) (r : Result (Vec Scalar Global) KeysError) (e : KeysError) → IsErr r × IsErrAnd r (λ f. f ≡ e) → (e ≡ BadOffsets row) × ¬ (IsPlaced keys.bytes.now keys.offsets.now row) → IfErr r (IsRowReadError keys row)
 not-placed keys row (Ok x) e h w = tt

@@ -1,15 +1,14 @@
 -- Steps of reading the columns of a table.
-use Rattle.std.proofs.Common.{◌≡◌, ℕ, ◌+◌, ◌<◌, ◌≤◌, ◌⊎◌, inl, inr, List, [], ◌∷◌, ◌++◌, length, take, get_or, map, refl, sym, subst, ap, ap₂, ◌∙◌, arith, Some, slice_get}
+use Rattle.std.proofs.Common.{◌≡◌, ℕ, ◌+◌, ◌<◌, List, [], ◌∷◌, ◌++◌, length, take, get_or, map, refl, sym, subst, ap, ap₂, ◌∙◌}
 use Rattle.std.specs.Global.{Global}
-use Rattle.std.specs.Prelude.{slice_index, Result, Ok, Err, IsErr, IsErrAnd, IfErr, Vec}
+use Rattle.std.specs.Prelude.{Result, Ok, Err, IsErr, IsErrAnd, IfErr, Vec}
 use Rattle.std.specs.List.{All}
-use Rattle.std.proofs.lemmas.Bool.{cases_lt}
 use Rattle.std.proofs.lemmas.List.{map-append, take_more}
 use Rattle.std.proofs.lemmas.List.Elements.{All-nil, All-push}
-use Rattle.std.proofs.lemmas.Option.{slice_get-get_or, same_Some}
 use Rattle.arrow_columns.specs.declared.columns.Column.{Column}
 use Rattle.column_cells.specs.Contents.{HasTexts, contents_of_column, contents_of_rows}
-use Rattle.column_keys.specs.Tables.{AreReadFrom, AreSoundBefore, IsErrorAt, IsReadFrom, IsSound, IsTableError, options_in, options_of, table_of}
+use Rattle.column_cells.proofs.TableSteps.{first-error}
+use Rattle.column_keys.specs.Tables.{AreReadFrom, AreSoundBefore, IsErrorAt, IsReadFrom, IsSoundAt, IsTableError, options_in, options_of, table_of}
 use Rattle.arrow_columns.specs.Columns.{rows_in}
 use Rattle.column_keys.specs.declared.key_columns.KeyColumn.{KeyColumn}
 use Rattle.column_keys.specs.declared.errors.TableError.{TableError}
@@ -17,9 +16,6 @@ use Rattle.column_keys.specs.declared.errors.TableError.TheVariants.{BadOptions,
 
 pub read-none : (columns : List Column) (options : List ℕ) → AreReadFrom columns options 0 []
 read-none columns options = record { contents = refl; options' = refl; rows = All-nil _ }
-
-pub sound-none : (columns : List Column) (options : List ℕ) → AreSoundBefore columns options 0
-sound-none columns options j column less got = absurd (omega arith)
 
 -- one column more
 
@@ -35,32 +31,18 @@ read-more columns options k d table more read here there all one e = record {
   rows = subst (λ t. All (λ c. (length (contents_of_rows c.rows) ≡ rows_in columns) × HasTexts c.rows) t) (sym e) (All-push (λ c. (length (contents_of_rows c.rows) ≡ rows_in columns) × HasTexts c.rows) table read all.rows (ap length one.contents ∙ one.sound.even, one.texts));
 }
 
-got-is : (columns : List Column) (k : ℕ) (d other : Column) → k < length columns → slice_get columns k ≡ Some other → get_or columns k d ≡ other
-got-is columns k d other here got = same_Some (get_or columns k d) other (sym (slice_get-get_or columns k d here) ∙ got)
-
-pub sound-more : (columns : List Column) (options : List ℕ) (k : ℕ) (d : Column) (read : KeyColumn) → k < length columns → AreSoundBefore columns options k → IsReadFrom (get_or columns k d) (get_or options k 0) (rows_in columns) read
-    → AreSoundBefore columns options (k + 1)
-sound-more columns options k d read here all one j other less got = by_place (cases_lt j k)
-  where
-    by_place : (j < k) ⊎ (k ≤ j) → IsSound other (slice_index options j) (rows_in columns)
-    by_place (inl before) = all j other before got
-    by_place (inr after) =
-        let at : j ≡ k = omega arith in
-        let found : get_or columns k d ≡ other = got-is columns k d other here (subst (λ n. slice_get columns n ≡ Some other) at got) in
-        subst (λ c. IsSound c (slice_index options j) (rows_in columns)) found (subst (λ n. IsSound (get_or columns k d) (slice_index options n) (rows_in columns)) (sym at) one.sound)
-
 -- an error of a column is one of the table
 
 pub table-fault : (columns : List Column) (options : List ℕ) (k : ℕ) (d : Column) (fault : TableError) → length options ≡ length columns → k < length columns → AreSoundBefore columns options k
     → IsErrorAt k (get_or columns k d) (get_or options k 0) (rows_in columns) fault → IsTableError columns options fault
 table-fault columns options k d OutOfMemory counts here all h = absurd h
 table-fault columns options k d WrongCount counts here all h = absurd h
-table-fault columns options k d (Unreadable place fault) counts here all h = (counts, (k, get_or columns k d, slice_get-get_or columns k d here, all, h))
-table-fault columns options k d (BadOptions place) counts here all h = (counts, (k, get_or columns k d, slice_get-get_or columns k d here, all, h))
-table-fault columns options k d (WrongLength place) counts here all h = (counts, (k, get_or columns k d, slice_get-get_or columns k d here, all, h))
+table-fault columns options k d (Unreadable place fault) counts here all h = (counts, first-error (IsSoundAt options (rows_in columns)) (λ j column. IsErrorAt j column (get_or options j 0) (rows_in columns) (Unreadable place fault)) columns k d here all h)
+table-fault columns options k d (BadOptions place) counts here all h = (counts, first-error (IsSoundAt options (rows_in columns)) (λ j column. IsErrorAt j column (get_or options j 0) (rows_in columns) (BadOptions place)) columns k d here all h)
+table-fault columns options k d (WrongLength place) counts here all h = (counts, first-error (IsSoundAt options (rows_in columns)) (λ j column. IsErrorAt j column (get_or options j 0) (rows_in columns) (WrongLength place)) columns k d here all h)
 
 pub table-refused : (columns : List Column) (options : List ℕ) (r : Result (Vec KeyColumn Global) TableError) (e : TableError) → IsErr r × IsErrAnd r (λ f. f ≡ e) → IsTableError columns options e → IfErr r (λ f. IsTableError columns options f)
 table-refused columns options (Ok p) e h k = tt
 table-refused columns options (Err f) e h k = subst (IsTableError columns options) (sym h.1) k
 
-pub ruleset shown = (read-none, sound-none)
+pub ruleset shown = (read-none)

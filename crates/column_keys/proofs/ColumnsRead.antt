@@ -1,5 +1,5 @@
 -- The columns of rows, one by one: how many bytes their values have, whether the buffers are long enough, and what is written.
-use Rattle.std.proofs.Common.{◌≡◌, ◌≢◌, ◌&&◌, ◌∙◌, ℕ, ◌+◌, ◌<◌, ◌≤◌, ◌⊎◌, inl, inr, List, length, map, get_or, set, refl, sym, subst, ap, ap₂, arith, Option, Some, Bool, true, false, MatchBool}
+use Rattle.std.proofs.Common.{◌≡◌, ◌&&◌, ◌∙◌, ℕ, ◌+◌, ◌<◌, ◌≤◌, ◌⊎◌, inl, inr, List, length, map, get_or, set, refl, sym, subst, ap, ap₂, arith, Option, Some, Bool, true, false, MatchBool}
 use Rattle.std.specs.Global.{Global}
 use Rattle.std.specs.List.{All}
 use Rattle.std.specs.Prelude.{Vec, slice_index}

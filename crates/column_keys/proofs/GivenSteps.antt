@@ -2,7 +2,7 @@
 use Rattle.std.proofs.Common.{◌≡◌, ◌∙◌, ℕ, ◌<◌, inl, List, [], ◌∷◌, length, map, get_or, sym, subst, ap, arith, Option, Some, None}
 use Rattle.std.specs.Global.{Global}
 use Rattle.std.specs.List.{All}
-use Rattle.std.specs.Prelude.{Result, Ok, Err, IsErr, IsErrAnd, IfErr, IfOk, Vec, slice_index}
+use Rattle.std.specs.Prelude.{Result, Ok, Err, IsErr, IsErrAnd, IfErr, Vec, slice_index}
 use Rattle.std.proofs.lemmas.List.{get_or-map, length-map}
 use Rattle.arrow_columns.specs.Kinds.{kind_at}
 use Rattle.arrow_columns.specs.declared.kinds.Kind.{Kind}
@@ -10,16 +10,16 @@ use Rattle.arrow_columns.specs.declared.kinds.Kind.TheVariants.{Binary, Boolean,
 use Rattle.column_cells.specs.Types.{type_at}
 use Rattle.vortex_dtype.specs.TypeOf.{as_type_trees, type_of}
 use Rattle.vortex_dtype.specs.TypeTree.{null_type}
-use Rattle.vortex_value.specs.TypesWithin.{AllHaveVariants, HasNoVariant, HaveNoVariant, UnionsHaveVariants}
+use Rattle.vortex_value.specs.TypesWithin.{HasNoVariant, HaveNoVariant}
 use Rattle.vortex_value.specs.Size.{capped}
 use Rattle.vortex_value.specs.Validity.{Valid}
 use Rattle.vortex_value.specs.Values.Content.{content}
 use Rattle.vortex_value.specs.declared.scalars.Scalar.{Scalar}
-use Rattle.column_keys.specs.Answers.{AreCellsBy, AreColumnsOfKeys, AreCountsOfKeys, HasCells, HaveLengths, IsRefusal}
+use Rattle.column_keys.specs.Answers.{AreCellsBy, AreColumnsOfKeys, AreCountsOfKeys, HasCells, IsRefusal}
 use Rattle.column_keys.specs.Cells.{AreCellsOf, AreRowsOf, AreTyped, HaveColumn, raws_in, types_in}
 use Rattle.column_keys.specs.Errors.{IsFirstError, Refuses}
 use Rattle.column_keys.specs.Layout.{values_length}
-use Rattle.column_keys.specs.Read.{AreCountedIn, AreWrittenIn, HasSpace, HaveColumns, HaveValues, LackSpace}
+use Rattle.column_keys.specs.Read.{AreCountedIn, AreWrittenIn, HasSpace, LackSpace}
 use Rattle.column_keys.specs.Tables.{options_in}
 use Rattle.column_keys.specs.Types.{AreTypesError, HaveTypes, type_at_code, types_of_codes}
 use Rattle.column_keys.specs.declared.buffers.ColumnBuffers.{ColumnBuffers}
@@ -41,23 +41,9 @@ plain-kind (Some Binary) = tt
 plain-kind (Some LargeBinary) = tt
 plain-kind (Some Null) = tt
 
-filled-kind : (o : Option Kind) → UnionsHaveVariants (type_at o)
-filled-kind None = tt
-filled-kind (Some (Integer kind)) = tt
-filled-kind (Some Boolean) = tt
-filled-kind (Some Utf8) = tt
-filled-kind (Some LargeUtf8) = tt
-filled-kind (Some Binary) = tt
-filled-kind (Some LargeBinary) = tt
-filled-kind (Some Null) = tt
-
 pub plain-codes : (codes : List ℕ) → HaveNoVariant (as_type_trees (types_of_codes codes))
 plain-codes [] = tt
 plain-codes (code ∷ codes) = (plain-kind (kind_at code), plain-codes codes)
-
-filled-codes : (codes : List ℕ) → AllHaveVariants (as_type_trees (types_of_codes codes))
-filled-codes [] = tt
-filled-codes (code ∷ codes) = (filled-kind (kind_at code), filled-codes codes)
 
 -- what was read of kinds and options
 pub record AreReadFrom (codes bytes : List ℕ) (keys : RowKeys) : Type 0 where
@@ -72,7 +58,6 @@ pub typed : (codes bytes : List ℕ) (keys : RowKeys) → AreReadFrom codes byte
 typed codes bytes keys read = record {
   counts = type-count codes bytes keys read ∙ sym (ap length read.options' ∙ length-map bytes options_in ∙ read.sound.counts);
   plain = subst (λ ts. HaveNoVariant (as_type_trees ts)) (sym read.types) (plain-codes codes);
-  filled = subst (λ ts. AllHaveVariants (as_type_trees ts)) (sym read.types) (filled-codes codes);
 }
 
 -- the rows have each column, with values of its type

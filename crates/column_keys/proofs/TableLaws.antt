@@ -1,5 +1,5 @@
 -- The way from columns to keys and back, of columns that have keys.
-use Rattle.std.proofs.Common.{◌≡◌, ◌∙◌, ℕ, zero, suc, ◌<◌, ◌^◌, ℤ, pos, negsuc, List, [], ◌∷◌, length, map, get_or, refl, sym, subst, ap, arith, Option, None, Some, slice_get}
+use Rattle.std.proofs.Common.{◌≡◌, ◌∙◌, ℕ, suc, ◌<◌, ℤ, pos, negsuc, List, [], ◌∷◌, length, map, get_or, refl, sym, subst, arith, Option, None, Some, slice_get}
 use Rattle.std.proofs.lemmas.List.{get_or-map, length-map}
 use Rattle.std.proofs.lemmas.Option.{slice_get_within}
 use Rattle.arrow_columns.specs.Checked.{AreRowsOf}
@@ -7,7 +7,6 @@ use Rattle.arrow_columns.specs.Columns.{rows_in}
 use Rattle.arrow_columns.specs.Kinds.{kind_at}
 use Rattle.arrow_columns.specs.Spans.{AreBytes}
 use Rattle.arrow_columns.specs.declared.columns.Column.{Column}
-use Rattle.arrow_columns.specs.declared.kinds.IntegerKind.{IntegerKind}
 use Rattle.arrow_columns.specs.declared.kinds.Kind.{Kind}
 use Rattle.arrow_columns.specs.declared.kinds.Kind.TheVariants.{Binary, Boolean, Integer, LargeBinary, LargeUtf8, Null, Utf8}
 use Rattle.arrow_columns.specs.declared.tested_rows.Rows.{Rows}
@@ -25,7 +24,7 @@ use Rattle.vortex_value.specs.Validity.{Valid}
 use Rattle.vortex_value.specs.Values.Content.{Content, content}
 use Rattle.vortex_value.specs.Values.RawTree.{RawTree, RawTrees, absent, raw_bool, raw_bytes, raw_integer, raw_text, raw_tuple, raw_union, raw_variant}
 use Rattle.column_keys.specs.Cells.{AreCellsOf}
-use Rattle.column_keys.specs.Laws.{AreColumnsOf, IsContentOf, IsTable, TablesComeBack}
+use Rattle.column_keys.specs.Laws.{AreColumnsOf, IsContentOf, TablesComeBack}
 use Rattle.column_keys.specs.Tables.{contents_in, options_in}
 use Rattle.column_keys.proofs.GivenSteps.{plain-kind}
 use Rattle.column_keys.proofs.LawSteps.{columns-come-back}

@@ -4,7 +4,7 @@ use Rattle.std.specs.List.{All}
 use Rattle.std.specs.Prelude.{◌≡◌, ℕ, ◌+◌, ◌-◌, ◌<◌, ◌≤◌, List, [], length, map, slice_index, slice_index_or, slice_range, Vec}
 use Rattle.vortex_dtype.specs.TypeOf.{dtype_trees}
 use Rattle.vortex_dtype.specs.TypeTree.{TypeTrees}
-use Rattle.vortex_value.specs.TypesWithin.{AllHaveVariants, HaveNoVariant}
+use Rattle.vortex_value.specs.TypesWithin.{HaveNoVariant}
 use Rattle.vortex_value.specs.Values.Content.{Content, content, null}
 use Rattle.vortex_value.specs.Values.RawTree.{RawTree, absent}
 use Rattle.vortex_value.specs.Values.Scalars.{scalar_raw}
@@ -54,11 +54,10 @@ types_in keys = dtype_trees keys.dtypes.now
 abbrev pub count_in : RowKeys → ℕ
 count_in keys = key_count keys.offsets.now
 
--- there are as many options as types, and none of the types has variants or is a union without any
+-- there are as many options as types, and in none of the types a variant stands
 pub record AreTyped (keys : RowKeys) : Type 0 where
   pub counts : length keys.dtypes.now ≡ length keys.options.now
   pub plain : HaveNoVariant (types_in keys)
-  pub filled : AllHaveVariants (types_in keys)
 
 -- a row of these keys has these values
 abbrev pub IsRowOf : RowKeys → ℕ → List RawTree → Type 0

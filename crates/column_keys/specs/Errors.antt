@@ -20,7 +20,7 @@ pub record GoesOnAfter (IsOne : List ℕ → Type 0) (bytes : List ℕ) (place :
 
 -- the bytes are no key of a row of the types: the offset of the first byte that none has there, or of the first after one
 abbrev pub IsWrongKey : List SortOptions → TypeTrees → List ℕ → ℕ → Type 0
-IsWrongKey options types bytes place = IsFirstBad (IsRowKeyOf options types) (Unit {0}) bytes place ⊎ GoesOnAfter (IsRowKeyOf options types) bytes place
+IsWrongKey options types bytes place = IsFirstBad (IsRowKeyOf options types) bytes place ⊎ GoesOnAfter (IsRowKeyOf options types) bytes place
 
 -- why the key of a row is none
 abbrev pub IsKeyErrorAt : List SortOptions → TypeTrees → List ℕ → List ℕ → ℕ → KeysError → Type 0

@@ -1,5 +1,5 @@
 -- Tables of columns in Arrow's layout, and why one has no keys.
-use Rattle.std.specs.Prelude.{◌≡◌, ◌≢◌, ℕ, ◌/◌, ◌%◌, ◌==◌, ◌<◌, List, length, map, slice_get, slice_index, Some, take}
+use Rattle.std.specs.Prelude.{◌≡◌, ◌≢◌, ℕ, ◌/◌, ◌%◌, ◌==◌, ◌<◌, List, length, map, slice_index, take}
 use Rattle.std.specs.List.{All}
 use Rattle.arrow_columns.specs.Checked.{AreRowsOf}
 use Rattle.arrow_columns.specs.Columns.{rows_in}
@@ -9,6 +9,7 @@ use Rattle.arrow_columns.specs.declared.tested_rows.Rows.{Rows}
 use Rattle.vortex_value.specs.Values.Content.{Content}
 use Rattle.vortex_row.specs.declared.options.SortOptions.{SortOptions}
 use Rattle.column_cells.specs.Contents.{HasTexts, contents_of_column, contents_of_rows}
+use Rattle.column_cells.specs.Tables.{AreSoundTo, HasFirstError}
 use Rattle.column_keys.specs.declared.key_columns.KeyColumn.{KeyColumn}
 use Rattle.column_keys.specs.declared.errors.TableError.{TableError}
 use Rattle.column_keys.specs.declared.errors.TableError.TheVariants.{BadOptions, OutOfMemory, Unreadable, WrongCount, WrongLength}
@@ -50,9 +51,13 @@ pub record IsReadFrom (column : Column) (byte count : ℕ) (read : KeyColumn) : 
   pub texts : HasTexts read.rows
   pub options' : read.options ≡ options_in byte
 
+-- the column at a place is sound with its byte
+abbrev pub IsSoundAt : List ℕ → ℕ → ℕ → Column → Type 0
+IsSoundAt options count k column = IsSound column (slice_index options k) count
+
 -- the first columns are sound
 abbrev pub AreSoundBefore : List Column → List ℕ → ℕ → Type 0
-AreSoundBefore columns options k = (j : ℕ) (column : Column) → j < k → slice_get columns j ≡ Some column → IsSound column (slice_index options j) (rows_in columns)
+AreSoundBefore columns options k = AreSoundTo (IsSoundAt options (rows_in columns)) columns k
 
 -- these were read of the first columns
 pub record AreReadFrom (columns : List Column) (options : List ℕ) (k : ℕ) (read : List KeyColumn) : Type 0 where
@@ -73,5 +78,4 @@ abbrev pub IsTableError : List Column → List ℕ → TableError → Type 0
 IsTableError columns options OutOfMemory = length options ≡ length columns
 IsTableError columns options WrongCount = length options ≢ length columns
 IsTableError columns options fault =
-    (length options ≡ length columns)
-    × ((k : ℕ) × (column : Column) × (slice_get columns k ≡ Some column) × AreSoundBefore columns options k × IsErrorAt k column (slice_index options k) (rows_in columns) fault)
+    (length options ≡ length columns) × HasFirstError (IsSoundAt options (rows_in columns)) (λ k column. IsErrorAt k column (slice_index options k) (rows_in columns) fault) columns

@@ -68,7 +68,7 @@ fn key_column<'a>(
 /// first column with an error gives it: `Unreadable`, `BadOptions` for a byte above 3, and
 /// `WrongLength` for another number of rows than the first. `OutOfMemory` may come in place of
 /// these, but not of `WrongCount`.
-#[tactic(auto, using(crate::proofs::ColumnSteps::shown))]
+#[tactic(auto, using(crate::proofs::ColumnSteps::shown, column_cells::proofs::TableSteps::shown))]
 pub fn read_columns<'a>(
     alloc: Global,
     columns: &[Column<'a>],

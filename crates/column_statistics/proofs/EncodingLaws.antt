@@ -7,9 +7,11 @@ use Rattle.arrow_columns.specs.declared.kinds.Kind.{Kind}
 use Rattle.arrow_columns.specs.declared.kinds.Kind.TheVariants.{Binary, Boolean, Integer, LargeBinary, LargeUtf8, Null, Utf8}
 use Rattle.column_cells.specs.Types.{type_at, type_of_column, type_of_kind}
 use Rattle.vortex_dtype.specs.TypeTree.{TypeTree}
+use Rattle.vortex_value.specs.Equality.{HasNoTyped}
 use Rattle.vortex_value.specs.Validity.{Valid}
 use Rattle.vortex_value.specs.TypesWithin.{HasNoVariant}
-use Rattle.vortex_value.specs.Values.Scalars.{scalar_raw}
+use Rattle.vortex_value.specs.Values.Scalars.{scalar_raw, scalar_type}
+use Rattle.vortex_value.proofs.OrderAgrees.{no_typed}
 use Rattle.vortex_cells.specs.Cells.{cell_order, order_from_above}
 use Rattle.statistics_bytes.specs.EncodingSteps.{HasNoVariantIn, HasNoVariants}
 use Rattle.vortex_statistics.specs.Merging.{AreRightTogether, bound_of_both, bound_order, merged, outer_by, sum_of}
@@ -51,7 +53,9 @@ no_variant_in column = no_variant_at (kind_at column.kind)
 
 bound_without : (t : TypeTree) (b : Option Bound) → HasNoVariant t → IfSome b (IsBoundIn t) → HasNoVariantIn (option_map known_bound b)
 bound_without t None n h = tt
-bound_without t (Some b) n h = subst HasNoVariant (sym h.typed) n
+bound_without t (Some b) n h =
+    let ordered : HasNoVariant (scalar_type b.value) = subst HasNoVariant (sym h.typed) n in
+    record { ordered = ordered; untyped = no_typed (scalar_type b.value) (scalar_raw b.value) ordered h.valid }
 
 pub without_variants : (t : TypeTree) (s : ColumnStatistics) → HasNoVariant t → HasBoundsIn t s → HasNoVariants (known s)
 without_variants t s n h = record {
@@ -115,7 +119,10 @@ module _ (t : TypeTree) where
 -- what is of a type has keys, if the type has
 key_bound : (t : TypeTree) (b : Option KnownBound) → IsBoundOf t b → HasNoVariantIn b
 key_bound t None h = tt
-key_bound t (Some b) h = subst HasNoVariant (sym h.typed) h.ordered
+key_bound t (Some b) h = record {
+  ordered = subst HasNoVariant (sym h.typed) h.ordered;
+  untyped = subst HasNoTyped (sym h.is) (no_typed t h.value h.ordered h.is_value.valid);
+}
 
 pub keyed : (t : TypeTree) (s : Known) → AreOf t s → HasNoVariants s
 keyed t s h = record { lower = key_bound t s.lower h.lower; upper = key_bound t s.upper h.upper }

@@ -1,5 +1,5 @@
 -- The extremes of the values of each kind, as extremes of contents.
-use Rattle.std.proofs.Common.{◌≡◌, ◌≢◌, ◌∙◌, inl, inr, ℕ, zero, suc, ℤ, ◌≤ℤ◌, ◌<◌, ◌<ℤ◌, Bool, true, false, cond, List, [], ◌∷◌, map, get_or, slice_get, Option, Some, None, MatchOption, arith, ap, refl, subst, sym}
+use Rattle.std.proofs.Common.{◌≡◌, ◌≢◌, ◌∙◌, inl, inr, ℕ, zero, suc, ℤ, ◌≤ℤ◌, ◌<ℤ◌, Bool, true, false, cond, List, [], ◌∷◌, map, get_or, slice_get, Option, Some, None, MatchOption, arith, ap, refl, subst, sym}
 use Rattle.std.proofs.lemmas.Bool.{false≢true}
 use Rattle.std.proofs.lemmas.Cmp.{by_ranked, int_cmp_total, int_ranked, nat_list_cmp_total, tied_itself}
 use Rattle.std.proofs.lemmas.Int.{ints}

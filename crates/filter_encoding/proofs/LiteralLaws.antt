@@ -3,13 +3,12 @@ use Rattle.std.proofs.Common.{◌≡◌, ◌⊎◌, inl, inr, ℕ, zero, suc, �
 use Rattle.std.specs.Prelude.{Err, IfOk, Ok, Result}
 use Rattle.vortex_dtype.specs.TypeTree.{TypeTree, null_type, bool_type, integer_type, utf8_type, binary_type}
 use Rattle.vortex_value.specs.Equality.{HasNoTyped}
-use Rattle.vortex_value.specs.TypesWithin.{UnionsHaveVariants}
 use Rattle.vortex_value.specs.Validity.{Valid}
 use Rattle.vortex_value.specs.Values.Content.{Content, content}
 use Rattle.vortex_value.specs.Values.RawTree.{absent}
 use Rattle.vortex_value.specs.Values.Scalars.{IsValid, scalar_content, scalar_raw, scalar_type}
 use Rattle.vortex_value.specs.declared.scalars.Scalar.{Scalar}
-use Rattle.vortex_row.specs.Decoded.{IsDecoded, IsFirstBad, IsKeyOf, IsValueOf}
+use Rattle.vortex_row.specs.Decoded.{IsDecoded, IsFirstBad, MayBegin, IsKeyOf, IsValueOf}
 use Rattle.vortex_row.specs.Held.{IsHeld}
 use Rattle.vortex_row.specs.Keys.{key}
 use Rattle.vortex_row.specs.Columns.{key_with}
@@ -27,7 +26,7 @@ use Rattle.filter_encoding.specs.Steps.{IsKeyOfType, ReadsKey}
 use Rattle.filter_encoding.specs.Strings.{BeginAlike, HasRead, IsEncodingOf, IsStuck, Reads}
 use Rattle.filter_encoding.specs.declared.reader.FilterDecodeError.{FilterDecodeError}
 use Rattle.filter_encoding.proofs.Stuck.{AreApart, GoesOn, encoding_of, stuck_later, stuck_within}
-use Rattle.filter_encoding.proofs.TypeLaws.{plain_ordered, plain_unions, types_apart}
+use Rattle.filter_encoding.proofs.TypeLaws.{plain_ordered, types_apart}
 
 -- ---- what begins with two literals
 
@@ -96,6 +95,13 @@ has_values (utf8_type n) h = tt
 has_values (binary_type n) h = tt
 has_values _ h = absurd h
 
+some_key : (t : TypeTree) → IsPlain t → (k : List ℕ) × IsKeyOf ascending t k
+some_key t h =
+    let v = some_value t (has_values t h) in (
+      key_with ascending (content v.0),
+      record { value = v.0; begins = record { value = record { valid = v.1.kind; held = v.1.held }; is = sym (append-nil (key_with ascending (content v.0))) } },
+    )
+
 pub type_stuck : (old now : List ℕ) → IsStuck (IsEncodingOf type_bytes IsPlain) old now → IsStuck (IsEncodingOf literal_bytes IsLiteral) old now
 type_stuck old now stuck =
     stuck_within (IsEncodingOf type_bytes IsPlain) (IsEncodingOf literal_bytes IsLiteral) old now
@@ -133,11 +139,10 @@ inside (suc n) [] b now e = absurd (cc)
 inside (suc n) (x ∷ xs) b now e = let w = inside n xs b now e in (omega (arith, w.0), ap (λ ys. x ∷ ys) w.1)
 
 -- the offset where no key goes on is where the bytes are stuck
-pub bad_stuck : (IsOne Is : List ℕ → Type 0) (all : Type 0) (bytes : List ℕ) (place : ℕ) → ((s : List ℕ) → IsOne s → Is s) → ((s : List ℕ) → Is s → IsOne s) → all → IsFirstBad IsOne all bytes place
+pub bad_stuck : (IsOne Is : List ℕ → Type 0) (bytes : List ℕ) (place : ℕ) → ((s : List ℕ) → IsOne s → Is s) → ((s : List ℕ) → Is s → IsOne s) → (s : List ℕ) × IsOne s → IsFirstBad IsOne bytes place
     → IsStuck Is bytes (drop place bytes)
-bad_stuck IsOne Is all bytes place to from a bad =
-    let b = bad.before a in
-    let begun = begins b.key (prefix_cases (take place bytes) b.more b.key b.rest b.is) b.is_one in
+bad_stuck IsOne Is bytes place to from some bad =
+    let begun = either bad.before in
     record {
       done = take place bytes;
       split = take-then place bytes;
@@ -149,6 +154,10 @@ bad_stuck IsOne Is all bytes place to from a bad =
     begins : (k : List ℕ) → ((q : List ℕ) × (k ≡ take place bytes ++ q)) ⊎ ((q : List ℕ) × (take place bytes ≡ k ++ q)) → IsOne k → (more : List ℕ) × Is (take place bytes ++ more)
     begins k (inl h) one = (h.0, subst Is h.1 (to k one))
     begins k (inr h) one = absurd (bad.no_key k (h.0 ++ drop place bytes) one (take-then place bytes ∙ ap (λ xs. xs ++ drop place bytes) h.1 ∙ append_assoc k h.0 (drop place bytes)))
+
+    either : (place ≡ 0) ⊎ MayBegin IsOne (take place bytes) → (more : List ℕ) × Is (take place bytes ++ more)
+    either (inl first) = (some.0, subst (λ n. Is (take n bytes ++ some.0)) (sym first) (to some.0 some.1))
+    either (inr b) = begins b.key (prefix_cases (take place bytes) b.more b.key b.rest b.is) b.is_one
 
     none : (s zs rest now : List ℕ) → Is s → drop place bytes ≡ now → BeginAlike now zs → take place bytes ++ zs ≡ s ++ rest → ⊥
     none s [] rest [] h d alike e = bad.no_key s rest (from s h) (take-then place bytes ∙ ap (λ xs. take place bytes ++ xs) d ∙ e)
@@ -166,13 +175,13 @@ bad_stuck IsOne Is all bytes place to from a bad =
         })
 
 -- no key of the type goes on
-pub no_key : (o : SortOptions) (t : TypeTree) (bytes : List ℕ) (place : ℕ) → o ≡ ascending → IsPlain t → IsFirstBad (IsKeyOf o t) (UnionsHaveVariants t) bytes place → IsStuck (IsKeyOfType t) bytes (drop place bytes)
+pub no_key : (o : SortOptions) (t : TypeTree) (bytes : List ℕ) (place : ℕ) → o ≡ ascending → IsPlain t → IsFirstBad (IsKeyOf o t) bytes place → IsStuck (IsKeyOfType t) bytes (drop place bytes)
 no_key o t bytes place e plain bad =
-    bad_stuck (IsKeyOf ascending t) (IsKeyOfType t) (UnionsHaveVariants t) bytes place
+    bad_stuck (IsKeyOf ascending t) (IsKeyOfType t) bytes place
     (λ s h. record { value = h.value; is_value = h.begins.value; is = h.begins.is ∙ append-nil (key_with ascending (content h.value)) ∙ key-ascending (content h.value) })
     (λ s h. record { value = h.value; begins = record { value = h.is_value; is = h.is ∙ sym (key-ascending (content h.value)) ∙ sym (append-nil (key_with ascending (content h.value))) } })
-    (plain_unions t plain)
-    (subst (λ p. IsFirstBad (IsKeyOf p t) (UnionsHaveVariants t) bytes place) e bad)
+    (some_key t plain)
+    (subst (λ p. IsFirstBad (IsKeyOf p t) bytes place) e bad)
 
 pub drop_front : (xs ys : List ℕ) → drop (length xs) (xs ++ ys) ≡ ys
 drop_front [] ys = refl

@@ -1,5 +1,5 @@
 -- What is written is read, if its literals are valid.
-use Rattle.std.proofs.Common.{◌≡◌, ℕ, zero, suc, List, [], ◌∷◌, ◌++◌, map, refl, sym, subst}
+use Rattle.std.proofs.Common.{ℕ, zero, suc, List, [], ◌∷◌, ◌++◌, map, refl, sym, subst}
 use Rattle.std.specs.List.{AllByRecursion}
 use Rattle.vortex_dtype.specs.declared.types.DType.{DType}
 use Rattle.vortex_value.specs.Values.Scalars.{IsValid, scalar_raw}
@@ -13,7 +13,6 @@ use Rattle.vortex_filter.specs.FilterLiterals.{AreValid, literals_of, literals_s
 use Rattle.vortex_filter.specs.Formula.{Formula, constant, comparison, null_test, membership, range, prefix_test, both, either, negation, formula, formula_step}
 use Rattle.vortex_filter.proofs.LiteralSteps.{valid_left, valid_right}
 use Rattle.filter_encoding.specs.Encoding.{CanBeWritten, HasEncoding, IsHeldCell, IsLiteral, IsPlainCell, IsWritten, Nests, Prepared, parts_of}
-use Rattle.filter_encoding.specs.Lists.{AreListed}
 
 -- ---- what holds of each literal
 
@@ -38,7 +37,7 @@ module _ (P Q : Cell → Type 0) (to : (x : Cell) → P x → Q x) where
 
 -- what was written could be
 pub could_be_written : (n : ℕ) (p : Prepared) → IsWritten n p → CanBeWritten n p
-could_be_written n p h = record { types = h.types; filter = nests_too IsHeldCell IsPlainCell (λ x w. w.plain) n p.filter h.filter }
+could_be_written n p h = record { types = h.types; filter = nests_too IsHeldCell IsPlainCell (λ x w. record { plain = w.plain; untyped = w.untyped }) n p.filter h.filter }
 
 -- ---- valid literals
 

@@ -7,7 +7,7 @@ use Rattle.vortex_dtype.specs.declared.nullability.Nullability.{Nullability}
 use Rattle.vortex_dtype.specs.declared.nullability.Nullability.TheVariants.{NonNullable, Nullable}
 use Rattle.vortex_dtype.specs.declared.ptype.PType.{PType}
 use Rattle.vortex_dtype.specs.declared.ptype.PType.TheVariants.{U8, U16, U32, U64, I8, I16, I32, I64}
-use Rattle.vortex_value.specs.TypesWithin.{HasNoVariant, UnionsHaveVariants}
+use Rattle.vortex_value.specs.TypesWithin.{HasNoVariant}
 use Rattle.filter_encoding.specs.Encoding.{IsPlain, type_byte, type_bytes}
 use Rattle.filter_encoding.specs.Steps.{type_at}
 use Rattle.filter_encoding.specs.Strings.{HasRead, IsEncodingOf, IsStuck}
@@ -90,14 +90,6 @@ plain_ordered (bool_type n) h = tt
 plain_ordered (utf8_type n) h = tt
 plain_ordered (binary_type n) h = tt
 plain_ordered _ h = absurd h
-
-pub plain_unions : (t : TypeTree) → IsPlain t → UnionsHaveVariants t
-plain_unions null_type h = tt
-plain_unions (integer_type k n) h = tt
-plain_unions (bool_type n) h = tt
-plain_unions (utf8_type n) h = tt
-plain_unions (binary_type n) h = tt
-plain_unions _ h = absurd h
 
 pub type_read : (byte : ℕ) (t : TypeTree) (old now : List ℕ) → (more : List ℕ) × (old ≡ byte ∷ more) → IsPlain t × (type_byte t ≡ byte) → now ≡ drop 1 old → HasRead type_bytes IsPlain t old now
 type_read byte t old now h is e = record { is_one = is.0; is = h.1 ∙ ap (λ b. b ∷ h.0) (sym is.1) ∙ ap (λ xs. type_byte t ∷ xs) (sym (e ∙ ap (drop 1) h.1)) }

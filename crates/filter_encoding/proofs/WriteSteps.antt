@@ -3,6 +3,7 @@ use Rattle.std.proofs.Common.{◌≡◌, ◌⊎◌, inl, inr, ℕ, List, [], ◌
 use Rattle.std.specs.Prelude.{Err, IfErr, IsErr, Ok, OnErr, OnOk, Result}
 use Rattle.std.specs.Result.{IsErrAnd}
 use Rattle.vortex_dtype.specs.TypeTree.{TypeTree}
+use Rattle.vortex_value.specs.Equality.{HasNoTyped}
 use Rattle.vortex_row.specs.Held.{IsHeld}
 use Rattle.vortex_row.specs.Keys.{key}
 use Rattle.vortex_cells.specs.Cells.{Cell}
@@ -45,12 +46,13 @@ pub begins_on : (old mid now : List ℕ) → Begins old mid → Begins mid now �
 begins_on old mid now h g = begins_later h.more old mid now h.is g
 
 -- a key, after the byte of its type
-pub key_written : (x : Cell) (t : TypeTree) (r : Result Unit FilterEncodingError) (old mid now : List ℕ) → x.typed ≡ t → IsPlain t × (mid ≡ old ++ type_bytes t) → OnOk r (now ≡ mid ++ key x.content) → OnOk r (IsHeld x.content) → IfErr r (λ e. e ≡ OutOfMemory)
+pub key_written : (x : Cell) (t : TypeTree) (r : Result Unit FilterEncodingError) (old mid now : List ℕ) → x.typed ≡ t → IsPlain t × (mid ≡ old ++ type_bytes t) → OnOk r (now ≡ mid ++ key x.content) → OnOk r (IsHeld x.content) → OnOk r (HasNoTyped x.content)
+    → IfErr r (IsRefused (HasNoTyped x.content))
     → OnErr r (now ≡ mid) → Appends (IsHeldCell x) (IsPlainCell x) (literal_bytes x) r old now
-key_written x t (Ok u) old mid now e w ok held err same =
-    (record { plain = subst IsPlain (sym e) w.0; held = held }, ok ∙ ap (λ xs. xs ++ key x.content) w.1 ∙ append_assoc old (type_bytes t) (key x.content) ∙ ap (λ u. old ++ type_byte u ∷ key x.content) (sym e))
-key_written x t (Err d) old mid now e w ok held err same =
-    (subst (IsRefused (IsPlainCell x)) (sym err) tt, record { more = type_bytes t; is = same ∙ w.1 })
+key_written x t (Ok u) old mid now e w ok held untyped err same =
+    (record { plain = subst IsPlain (sym e) w.0; untyped = untyped; held = held }, ok ∙ ap (λ xs. xs ++ key x.content) w.1 ∙ append_assoc old (type_bytes t) (key x.content) ∙ ap (λ u. old ++ type_byte u ∷ key x.content) (sym e))
+key_written x t (Err d) old mid now e w ok held untyped err same =
+    (refused_too (HasNoTyped x.content) (IsPlainCell x) d (λ p. p.untyped) err, record { more = type_bytes t; is = same ∙ w.1 })
 
 -- ---- tests
 

@@ -7,6 +7,7 @@ use Rattle.vortex_dtype.specs.declared.nullability.Nullability.TheVariants.{NonN
 use Rattle.vortex_dtype.specs.declared.ptype.PType.{PType}
 use Rattle.vortex_dtype.specs.declared.ptype.PType.TheVariants.{U8, U16, U32, U64, I8, I16, I32, I64}
 use Rattle.vortex_dtype.specs.declared.types.DType.{DType}
+use Rattle.vortex_value.specs.Equality.{HasNoTyped}
 use Rattle.vortex_value.specs.Values.Content.{content}
 use Rattle.vortex_value.specs.Values.RawTree.{RawTree}
 use Rattle.vortex_row.specs.Decoded.{IsValueOf}
@@ -68,13 +69,15 @@ type_bytes t = type_byte t ∷ []
 abbrev pub literal_bytes : Cell → List ℕ
 literal_bytes x = type_byte x.typed ∷ key x.content
 
--- a literal of such a type
-abbrev pub IsPlainCell : Cell → Type 0
-IsPlainCell x = IsPlain x.typed
+-- a literal of such a type, in which no variant's child stands
+pub record IsPlainCell (x : Cell) : Type 0 where
+  pub plain : IsPlain x.typed
+  pub untyped : HasNoTyped x.content
 
--- a literal of such a type, with a content that memory can hold
+-- the same, and memory can hold its content
 pub record IsHeldCell (x : Cell) : Type 0 where
   pub plain : IsPlain x.typed
+  pub untyped : HasNoTyped x.content
   pub held : IsHeld x.content
 
 -- a literal of such a type, and a value of it

@@ -1,5 +1,6 @@
 -- The words of this crate's clauses, from one place.
 pub use Rattle.vortex_dtype.specs.TypeOf.{type_of}
+pub use Rattle.vortex_value.specs.Equality.{HasNoTyped}
 pub use Rattle.vortex_value.specs.TypesWithin.{HasNoVariant}
 pub use Rattle.vortex_value.specs.Values.Scalars.{IsValid, scalar_content, scalar_type}
 pub use Rattle.vortex_row.specs.Held.{AreBytes, IsHeld}

@@ -2,8 +2,8 @@
 
 ghost use Rattle.std.specs.Prelude.{◌≡◌, ◌++◌, IfErr, IfOk, OnErr, OnOk, map};
 ghost use Rattle.std.specs.List.{AllByRecursion};
-ghost use Rattle.filter_encoding.specs.Words.{Appends, AreListed, AreSo, AreValid, HasNoVariant, IsFound, IsHeld};
-ghost use Rattle.filter_encoding.specs.Words.{IsHeldCell, IsLiteral, IsPlain, IsPlainCell, IsValid, OutOfMemory};
+ghost use Rattle.filter_encoding.specs.Words.{Appends, AreListed, AreSo, AreValid, HasNoTyped, HasNoVariant, IsFound, IsHeld};
+ghost use Rattle.filter_encoding.specs.Words.{IsHeldCell, IsLiteral, IsPlain, IsPlainCell, IsRefused, IsValid};
 ghost use Rattle.filter_encoding.specs.Words.{Reads, ReadsKey, ascending, cell_of, each_bytes, key, left, listed};
 ghost use Rattle.filter_encoding.specs.Words.{literal_bytes, scalar_content, scalar_type, type_of};
 
@@ -111,18 +111,20 @@ pub(crate) fn read_literals(
     read_so_many(alloc, count, reader)
 }
 
-/// Appends the key of a scalar of such a type.
+/// Appends the key of a scalar of such a type. `NoEncoding` if a variant stands in it.
 #[tactic(auto, using(statistics_bytes::proofs::WriteSteps::keys))]
 fn append_value(literal: &Scalar, out: &mut Vec<u8>) -> Result<(), FilterEncodingError>
     requires { HasNoVariant (scalar_type literal.now) }
     ensures appended { OnOk result
         (out.new.items ≡ out.old.items ++ key (scalar_content literal.now)) }
     ensures held { OnOk result (IsHeld (scalar_content literal.now)) }
-    ensures refused { IfErr result (λ e. e ≡ OutOfMemory) }
+    ensures untyped { OnOk result (HasNoTyped (scalar_content literal.now)) }
+    ensures refused { IfErr result (IsRefused (HasNoTyped (scalar_content literal.now))) }
     ensures unchanged { OnErr result (out.new.items ≡ out.old.items) }
 {
     match append_key(ScalarRef::of(literal), ascending(), out) {
         Ok(()) => Ok(()),
+        Err(RowError::HasVariant) => Err(FilterEncodingError::NoEncoding),
         Err(_) => Err(FilterEncodingError::OutOfMemory),
     }
 }

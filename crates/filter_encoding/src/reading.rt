@@ -14,7 +14,7 @@ use crate::reader::{FilterDecodeError, Reader};
 use crate::types::read_types;
 use crate::writing::VERSION;
 use std::alloc::Global;
-use vortex_filter::{CompareOperator, Filter};
+use vortex_filter::{CompareOperator, Filter, both, either, negation};
 
 /// The prepared filter that has this encoding, in which at most `depth` connectives nest.
 ///
@@ -118,15 +118,15 @@ fn read_node(
         Head::StartsWith => read_prefix(alloc, reader),
         Head::And => {
             let (left, right) = read_parts(alloc, depth - 1, reader)?;
-            Ok(Filter::And(left, right))
+            Ok(both(left, right))
         }
         Head::Or => {
             let (one, other) = read_parts(alloc, depth - 1, reader)?;
-            Ok(Filter::Or(one, other))
+            Ok(either(one, other))
         }
         Head::Not => {
             let inner = read_part(alloc, depth - 1, reader)?;
-            Ok(Filter::Not(inner))
+            Ok(negation(inner))
         }
     }
 }

@@ -23,10 +23,10 @@ pub(crate) const VERSION: u8 = 1;
 /// Appends the encoding of the filter over columns of these types, and nothing else.
 ///
 /// `NoEncoding` only if a column or a literal is of a type other than integers, bool, strings,
-/// bytes and nulls, or if more than `depth` connectives nest. Such a filter is never written.
-/// `OutOfMemory` is the only other refusal. After a refusal `out` has the bytes that it had. The
-/// literals need not be valid for their types. If they are, `read_filter` reads what is written, at
-/// the same depth.
+/// bytes and nulls, if a variant stands in a literal, or if more than `depth` connectives nest. Such
+/// a filter is never written. `OutOfMemory` is the only other refusal. After a refusal `out` has the
+/// bytes that it had. The literals need not be valid for their types. If they are, `read_filter`
+/// reads what is written, at the same depth.
 pub fn append_filter(
     filter: &Filter,
     columns: &[DType],

@@ -1,13 +1,12 @@
 -- Scalars of one logical type compare as their storages.
-use Rattle.std.proofs.Common.{◌≡◌, ◌∙◌, ℤ, Bool, true, List, Option, Some, None, ap, refl, FitsSigned, if◌then◌else◌}
+use Rattle.std.proofs.Common.{◌≡◌, ◌∙◌, ℤ, Bool, true, Some, None, ap, refl, FitsSigned, if◌then◌else◌}
 use mir.Syntax.{w128}
 use Rattle.std.specs.Cmp.Lexicographic.{slice_cmp}
 use Rattle.std.specs.Ordering.{int_cmp, nat_cmp}
-use Rattle.std.specs.declared.cmp.Ordering.{Ordering}
 use Rattle.vortex_dtype.specs.Laws.{EqualityDecides}
 use Rattle.vortex_dtype.specs.TypeTree.{Same, erase}
 use Rattle.vortex_value.specs.Equality.{same_type}
-use Rattle.vortex_value.specs.Order.{order, typed_order}
+use Rattle.vortex_value.specs.Order.{order}
 use Rattle.vortex_value.specs.Values.Content.{Content, content}
 use Rattle.vortex_value.specs.Values.Scalars.{scalar_content, scalar_order, scalar_type}
 use Rattle.vortex_value.specs.declared.scalars.Scalar.{Scalar}

@@ -1,5 +1,5 @@
 -- Where a number lies, by its factor of a unit and what is left.
-use Rattle.std.proofs.Common.{◌≡◌, ◌∙◌, ◌+◌, ◌-◌, ◌*◌, ◌<◌, ◌≤◌, ℕ, zero, suc, ℤ, pos, negsuc, neg_ℤ, ◌+ℤ◌, ◌-ℤ◌, ◌*ℤ◌, refl, sym, ap, arith, unsigned_abs}
+use Rattle.std.proofs.Common.{◌≡◌, ◌∙◌, ◌+◌, ◌-◌, ◌*◌, ◌<◌, ◌≤◌, ℕ, zero, suc, ℤ, pos, neg_ℤ, ◌+ℤ◌, ◌*ℤ◌, refl, sym, ap, arith, unsigned_abs}
 use native.Mathlib.Nat.{mul-le-mul_left}
 use Rattle.jiff_core.proofs.SignedLemmas.{signed_arith}
 use Rattle.logical_types.specs.Places.{IsPlaceOf}

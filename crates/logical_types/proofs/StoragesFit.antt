@@ -1,12 +1,12 @@
 -- What stores the values of a type holds their storages.
-use Rattle.std.proofs.Common.{◌≡◌, ◌<◌, ◌≤◌, ◌^◌, ℕ, ℤ, Bool, true, false, FitsSigned, arith, refl, nat_le, unsigned_abs, if◌then◌else◌}
-use mir.Syntax.{w128, w32, w64}
+use Rattle.std.proofs.Common.{◌≡◌, ◌<◌, ◌≤◌, ◌^◌, ℕ, ℤ, Bool, true, false, arith, refl, nat_le, unsigned_abs, if◌then◌else◌}
+use mir.Syntax.{w128, w64}
 use Rattle.std.proofs.lemmas.Bool.Decides.{nat_tests}
 use Rattle.std.proofs.lemmas.Int.{fits_signed_from_abs, ints}
 use Rattle.std.proofs.Math.Nat.{pow-le-pow_right}
 use Rattle.logical_types.specs.Extensions.{FitsStorage, storage_type_of}
 use Rattle.logical_types.specs.Words.{IsStorageOf}
-use Rattle.logical_types.specs.declared.extensions.StorageType.TheVariants.{I32, I64, Bytes}
+use Rattle.logical_types.specs.declared.extensions.StorageType.TheVariants.{I64, Bytes}
 use Rattle.logical_types.specs.declared.times.TimeUnit.TheVariants.{Seconds, Milliseconds, Microseconds, Nanoseconds}
 use Rattle.logical_types.specs.declared.logical.LogicalType.{LogicalType}
 use Rattle.logical_types.specs.declared.logical.LogicalType.TheVariants.{Float64, Float32, Decimal, Date, Time, Timestamp}

@@ -1,5 +1,5 @@
 -- Bytes, the greatest first, compare as the numbers do, and are read back.
-use Rattle.std.proofs.Common.{◌≡◌, ◌∙◌, ◌⊎◌, inl, inr, ◌+◌, ◌-◌, ◌*◌, ◌/◌, ◌%◌, ◌^◌, ◌<◌, ◌≤◌, ℕ, zero, suc, ℤ, pos, negsuc, ◌+ℤ◌, List, [], ◌∷◌, ◌++◌, refl, sym, ap, arith, unsigned_abs, FitsSigned}
+use Rattle.std.proofs.Common.{◌≡◌, ◌∙◌, inl, inr, ◌+◌, ◌-◌, ◌*◌, ◌/◌, ◌%◌, ◌^◌, ◌<◌, ◌≤◌, ℕ, zero, suc, ℤ, pos, negsuc, ◌+ℤ◌, List, [], ◌∷◌, ◌++◌, refl, sym, ap, arith, unsigned_abs, FitsSigned}
 use mir.Syntax.{w128}
 use native.Mathlib.Nat.{pow-suc, mul-le-mul_left}
 use Rattle.jiff_core.proofs.SignedLemmas.{signed_arith}

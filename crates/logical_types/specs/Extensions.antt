@@ -1,6 +1,6 @@
 -- Logical types as extensions: an id, metadata and a storage.
 use mir.Syntax.{w128, w32, w64}
-use Rattle.std.specs.Prelude.{◌≡◌, ◌<◌, ◌+◌, ◌*◌, ℕ, ℤ, FitsSigned, List, [], ◌∷◌, Bool, true, false, codes, length, nat_le, if◌then◌else◌}
+use Rattle.std.specs.Prelude.{◌≡◌, ◌<◌, ◌+◌, ◌*◌, ℕ, ℤ, FitsSigned, List, [], ◌∷◌, true, false, codes, length, nat_le, if◌then◌else◌}
 use Rattle.logical_types.specs.declared.times.TimeUnit.{TimeUnit}
 use Rattle.logical_types.specs.declared.times.TimeUnit.TheVariants.{Seconds, Milliseconds, Microseconds, Nanoseconds}
 use Rattle.logical_types.specs.declared.logical.LogicalType.{LogicalType}

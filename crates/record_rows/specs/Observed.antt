@@ -35,7 +35,7 @@ IsTakenAs lenient column f c true = (lenient ≡ true) × HasNoCell column f × 
 abbrev pub cell_in : ColumnType → Content → Cell
 cell_in column c = record { typed = column_type column; content = c }
 
--- t is what is known of the cells of s and of x, whose row 64 bits count: it is right if s is, and complete if s is
+-- t is what is known of the cells of s and of x, and 64 bits count so many rows. It is right if s is, and complete if s is
 pub record ObservesCell (s : Known) (x : Cell) (t : Known) : Type 0 where
   pub is : t ≡ observed s x
   pub fits : s.row_count + 1 < 2 ^ 64

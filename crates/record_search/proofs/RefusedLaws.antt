@@ -2,7 +2,7 @@
 use Rattle.std.proofs.Common.{◌≡◌, ◌&&◌, ◌⊎◌, inl, inr, ℕ, suc, List, [], ◌∷◌, Bool, true, false, not, Option, None, Some, MatchBool, is_some, refl, sym, subst}
 use Rattle.csv_records.specs.Rows.{Field, rows_of}
 use Rattle.record_rows.specs.Cells.{Means, is_null_field}
-use Rattle.record_rows.specs.Rows.{HasFirstError, IsFirstError, IsUntaken, Refuses, RefusesRows}
+use Rattle.record_rows.specs.Rows.{HasFirstError, IsFirstError, IsUntaken, Refuses}
 use Rattle.record_rows.specs.declared.errors.RowReadError.{RowReadError}
 use Rattle.record_rows.specs.declared.errors.RowReadError.TheVariants as row_faults
 use Rattle.record_rows.specs.declared.schema.ColumnType.{ColumnType}
@@ -12,7 +12,7 @@ use Rattle.vortex_dtype.specs.declared.nullability.Nullability.{Nullability}
 use Rattle.vortex_dtype.specs.declared.nullability.Nullability.TheVariants.{NonNullable, Nullable}
 use Rattle.vortex_value.specs.Values.Content.{Content, null}
 use Rattle.zone_index.specs.Errors.{IfRecordRefused, TellsRecord}
-use Rattle.record_search.specs.Contents.{cell_before, cells_of, field_content, only_row, or_null, row_of, word_content}
+use Rattle.record_search.specs.Contents.{cell_before, cells_of, field_content, only_row, or_null, word_content}
 use Rattle.record_search.specs.Named.{AgreeAsRows}
 use Rattle.record_search.specs.Refused.{RefusesRecord, fault_at_place}
 use Rattle.record_search.specs.Searched.{has_fields, is_refused, row_under}

@@ -5,7 +5,7 @@ ghost use Rattle.record_search.specs.Words.{DescribeRows, RefusesRecord, decisio
 ghost use Rattle.record_search.specs.Words.{is_refused, matches_record};
 
 use crate::laws::decisions_are_right;
-use crate::naming::named_columns;
+use crate::naming::mark_named;
 use crate::reading::read_statistics;
 use crate::schema::{Schema, cells_of_record};
 use csv_records::Delimiter;
@@ -22,6 +22,15 @@ pub struct RowFilter<'a> {
     pub schema: &'a Schema,
     /// Which rows match.
     pub filter: &'a Filter,
+}
+
+/// What is used again from record to record.
+#[derive(Debug, Drop)]
+pub struct RowScratch {
+    /// Which columns the filter names.
+    named: Vec<bool>,
+    /// The row of a record.
+    row: Vec<Scalar>,
 }
 
 impl Records for RowFilter<'_> {
@@ -45,22 +54,26 @@ impl Matcher for RowFilter<'_> {
 
     ghost decides = { λ m. decision_of m.schema.now.columns.items (formula m.filter.now) };
 
-    type Scratch = Vec<Scalar>;
+    type Scratch = RowScratch;
 
-    fn scratch(&self, alloc: Global) -> Vec<Scalar> {
-        Vec::new(alloc)
+    fn scratch(&self, alloc: Global) -> RowScratch {
+        RowScratch {
+            named: Vec::new(alloc),
+            row: Vec::new(alloc),
+        }
     }
 
     fn is_match(
         &self,
         alloc: Global,
-        scratch: &mut Vec<Scalar>,
+        scratch: &mut RowScratch,
         line: &[u8],
     ) -> Result<bool, RecordError> {
-        let wanted = named_columns(self.filter);
-        let has_row = cells_of_record(alloc, self.schema, 0, &wanted, line, scratch)?;
+        let RowScratch { named, row } = scratch;
+        mark_named(self.filter, self.schema.columns.len(), named)?;
+        let has_row = cells_of_record(alloc, self.schema, 0, named, line, row)?;
         if has_row {
-            Ok(self.filter.matches(scratch))
+            Ok(self.filter.matches(row))
         } else {
             Ok(false)
         }

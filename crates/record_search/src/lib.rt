@@ -13,8 +13,8 @@ mod schema;
 mod searching;
 
 pub use describing::RowDescriber;
-pub use filtering::RowFilter;
-pub use naming::{NAMED_COLUMNS, named_columns};
+pub use filtering::{RowFilter, RowScratch};
+pub use naming::named_columns;
 pub use reading::read_statistics;
 pub use record_rows::dtype_of;
 pub use schema::{Schema, row_of_record};

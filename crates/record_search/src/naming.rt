@@ -1,18 +1,34 @@
 //! The columns that a filter names.
 
-ghost use Rattle.std.specs.Prelude.{◌≡◌, false, replicate};
+ghost use Rattle.std.specs.Prelude.{◌≡◌, IfOk, OnOk, false, replicate};
 ghost use Rattle.record_search.specs.Words.{formula, with_columns};
 
+use std::alloc::{AllocError, Global};
 use vortex_filter::Filter;
 
-/// Of how many columns it is known whether a filter names them. Others are read as if it did.
-pub const NAMED_COLUMNS: usize = 64;
-
-/// Whether a filter names a column, for each of the first columns.
-pub fn named_columns(filter: &Filter) -> [bool; NAMED_COLUMNS]
-    ensures { result ≡ with_columns (formula filter.now) (replicate 64 false) }
+/// Whether a filter names a column, for each of so many columns.
+pub fn named_columns(
+    alloc: Global,
+    filter: &Filter,
+    columns: usize,
+) -> Result<Vec<bool>, AllocError>
+    ensures { IfOk result (λ named. named.items ≡ with_columns (formula filter.now) (replicate columns false)) }
 {
-    let mut named = [false; NAMED_COLUMNS];
-    filter.mark_columns(&mut named);
-    named
+    let mut named = Vec::new(alloc);
+    mark_named(filter, columns, &mut named)?;
+    Ok(named)
+}
+
+/// Whether a filter names a column, for each of so many columns, in a vector that is used again.
+pub(crate) fn mark_named(
+    filter: &Filter,
+    columns: usize,
+    named: &mut Vec<bool>,
+) -> Result<(), AllocError>
+    ensures { OnOk result (named.new.items ≡ with_columns (formula filter.now) (replicate columns false)) }
+{
+    named.clear();
+    named.resize(columns, false)?;
+    filter.mark_columns(named);
+    Ok(())
 }

@@ -74,7 +74,7 @@ among_rows columns row within =
       get_or-map (cells_of_columns columns) (numbers_from 0 n) row row ∙ ap (cells_of_columns columns) (numbers_at 0 n row row within ∙ first),
     )
 
-pub rows_right : (columns : List Column) (bytes offsets : List ℕ) (p : ℕ) → AreColumnsOf columns (map type_of_column columns) → ArePiecesOf columns bytes offsets p → AreWrittenRight (map type_of_column columns) bytes offsets p (all_rows columns)
+pub rows_right : (columns : List Column) (bytes offsets : List ℕ) (p : ℕ) → AreColumnsOf columns (map type_of_column columns) (rows_in columns) → ArePiecesOf columns bytes offsets p → AreWrittenRight (map type_of_column columns) bytes offsets p (all_rows columns)
 rows_right columns bytes offsets p sound pieces k within =
     let inside : k < length columns = omega (arith, within, length-map columns type_of_column) in
     let at = there_is columns k inside in

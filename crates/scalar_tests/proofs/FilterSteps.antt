@@ -1,11 +1,11 @@
 -- Steps of the callers of the laws of filters.
-use Rattle.std.proofs.Common.{◌≡◌, ◌↔◌, ◌⊎◌, ℕ, Bool, true, false, IsTrue, IsSome, List, map, Option, Some, None, slice_get, Result, Ok, Err, IfOk, IsOk, refl, sym, subst, ap, ◌∙◌, rules}
+use Rattle.std.proofs.Common.{◌≡◌, ◌↔◌, ◌⊎◌, ℕ, Bool, true, false, IsTrue, IsSome, List, map, Option, Some, None, slice_get, Result, Ok, Err, IfOk, IsOk, inl, inr, refl, sym, subst, ap, ◌∙◌, rules}
 use Rattle.vortex_dtype.specs.TypeTree.{TypeTree}
 use Rattle.vortex_value.specs.declared.scalars.Scalar.{Scalar}
 use Rattle.vortex_value.specs.Laws.HasContent.{HasContent}
 use Rattle.vortex_value.specs.Order.{order}
 use Rattle.vortex_cells.specs.Cells.{Cell, cell_of, is_null_cell}
-use Rattle.vortex_statistics.specs.Statistics.{Known}
+use Rattle.vortex_statistics.specs.Statistics.{AreRight, Known}
 use Rattle.vortex_filter.specs.declared.error.FilterError.{FilterError}
 use Rattle.vortex_filter.specs.declared.filter.Filter.{Compare, StartsWith, the_lemmas}
 use Rattle.vortex_filter.specs.declared.operator.CompareOperator.{CompareOperator}
@@ -20,7 +20,7 @@ use Rattle.vortex_filter.specs.Formula.{Formula, cell_at, compare_truth, compari
 use Rattle.filter_pruning.specs.OutcomeSets.{allows}
 use Rattle.filter_pruning.specs.Outcomes.{compare_outcomes, outcomes, prefix_outcomes}
 use Rattle.vortex_filter.specs.Prefixes.{prefix_truth}
-use Rattle.filter_pruning.specs.Pruning.{column}
+use Rattle.filter_pruning.specs.Pruning.{AreOpen, column}
 use Rattle.vortex_filter.specs.Rows.{IsRowOf, untyped, untyped_cell}
 use Rattle.filter_pruning.specs.Searching.{IsRightZone, Zone}
 
@@ -47,12 +47,17 @@ beginning law ss k p r e s there plain =
     subst (λ (b : Bool). IsTrue b ↔ OnSomeCell s (λ y. prefix_truth y (cell_of p) ≡ True))
     (sym (e ∙ ap (λ f. (outcomes f ss).may_be_true) (formula-StartsWith k p) ∙ ap (λ (c : Option Known). (prefix_outcomes c (cell_of p)).may_be_true) there)) (law s (cell_of p) True plain)
 
+-- statistics that say a null count leave not all open
+right_of : (s : Known) (P : Type 0) → IsSome s.null_count → AreOpen s ⊎ P → P
+right_of s P counted (inl all) = let none : false ≡ true = subst (λ (n : Option ℕ). IsSome n) all.nulls counted in absurd cc
+right_of s P counted (inr right) = right
+
 pub occurring : ComparisonsOccur → (z : Zone) → IsRightZone z → (k : ℕ) (x : Cell) (r : Bool) → r ≡ allows (compare_outcomes (slice_get z.statistics k) Lt x) True
     → (s : Known) → slice_get z.statistics k ≡ Some s → IsSome s.null_count → ArePlainBounds s.lower s.upper → AreExactBounds s.lower s.upper → is_null_cell x ≡ false
     → IsTrue r ↔ OnSomeOf (column k z.rows) (λ y. compare_truth Lt y x ≡ True)
 occurring law z right k x r e s there counted plain exact value =
     subst (λ (b : Bool). IsTrue b ↔ OnSomeOf (column k z.rows) (λ y. compare_truth Lt y x ≡ True)) (sym (e ∙ ap (λ (c : Option Known). allows (compare_outcomes c Lt x) True) there))
-    (law s (column k z.rows) (right k s there) counted plain exact Lt x True value refl)
+    (law s (column k z.rows) (right_of s (AreRight s (column k z.rows)) counted (right k s there)) counted plain exact Lt x True value refl)
 
 -- ---- rows of the columns' types
 

@@ -1,15 +1,16 @@
 -- Steps of the callers that write, merge and read the statistics of pieces of a column.
-use Rattle.std.proofs.Common.{◌≡◌, ◌≢◌, ◌++◌, ◌+◌, ◌∙◌, ℕ, zero, suc, List, [], ◌∷◌, Bool, true, false, not, Contains, Some, arith, ap, get_or, map, refl, subst, sym}
+use Rattle.std.proofs.Common.{◌≡◌, ◌≢◌, ◌++◌, ◌+◌, ◌∙◌, ℕ, zero, suc, List, [], ◌∷◌, Bool, true, false, not, Contains, Some, arith, ap, get_or, inr, map, refl, subst, sym}
 use Rattle.std.proofs.Math.ListN.{get_or-map}
 use Rattle.std.proofs.lemmas.List.{length-map}
 use Rattle.arrow_columns.specs.Kinds.{kind_at}
 use Rattle.arrow_columns.specs.declared.columns.Column.{Column}
 use Rattle.arrow_columns.specs.declared.kinds.Kind.{Kind}
 use Rattle.column_cells.specs.Types.{type_at, type_of_kind}
-use Rattle.column_filters.specs.Zones.{ArePiecesRight, Says, piece_at}
+use Rattle.column_filters.specs.Zones.{ArePiecesRight, piece_at}
 use Rattle.column_statistics.specs.Cells.{cells_of_column}
 use Rattle.column_statistics.specs.Encodings.{IsColumnEncoding, IsEncodingAs, IsMergedEncoding}
 use Rattle.column_statistics.specs.Laws.{AreRightBytes, EncodingsStayRight}
+use Rattle.statistics_bytes.specs.Pieces.{Says}
 use Rattle.vortex_cells.specs.Cells.{Cell}
 use Rattle.vortex_dtype.specs.TypeTree.{TypeTree, null_type}
 use Rattle.vortex_filter.specs.Formula.{Formula, truth}
@@ -54,7 +55,7 @@ first_cells [] = refl
 first_cells (y ∷ cells) = ap (λ ys. y ∷ ys) (first_cells cells)
 
 alone : (s : Known) (cells : List Cell) → AreRight s cells → AreStatisticsOf (s ∷ []) (map (λ y. y ∷ []) cells)
-alone s cells right zero t there = let same : s ≡ t = cc in subst (λ k. AreRight k (column 0 (map (λ y. y ∷ []) cells))) same (subst (AreRight s) (sym (first_cells cells)) right)
+alone s cells right zero t there = let same : s ≡ t = cc in inr (subst (λ k. AreRight k (column 0 (map (λ y. y ∷ []) cells))) same (subst (AreRight s) (sym (first_cells cells)) right))
 alone s cells right (suc k) t there = absurd (cc)
 
 pub none_matches : (f : Formula) (s : Known) (cells : List Cell) → AreRight s cells → MatchesNoRow f (s ∷ []) → (x : Cell) → Contains cells x → ¬ (truth f (x ∷ []) ≡ True)

@@ -81,8 +81,8 @@ pub fn find_by_index<B: BufRead, R: ReadAt, S: Sink>(
         start: start.place,
         zones: indexed.zones,
     };
-    let wanted = named_columns(sought.filter);
     let columns = sought.schema.columns.len();
+    let wanted = named_columns(alloc, sought.filter, columns)?;
     let kept = match there_and_back(alloc, columns, &index, &wanted) {
         Ok(Ok(kept)) => kept,
         _ => return Ok(false),

@@ -43,7 +43,7 @@ pub fn can_skip_written(byte: u8) -> bool
 /// none of their rows: the mask of the columns has no bit.
 pub fn can_skip_columns(byte: u8) -> bool
     ensures { (f : Formula) (columns : List Column) (bytes offsets : List ℕ) (p : ℕ)
-        → AreColumnsOf columns (map type_of_column columns)
+        → AreColumnsOf columns (map type_of_column columns) (rows_in columns)
         → ArePiecesOf columns bytes offsets p
         → IsOutcome f (map type_of_column columns) bytes offsets p byte
         → (row : ℕ) → row < rows_in columns → result ≡ true

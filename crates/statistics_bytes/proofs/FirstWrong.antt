@@ -43,11 +43,11 @@ pub record BeginsWith (IsKey : List ℕ → Type 0) (bs : List ℕ) : Type 0 whe
   pub is : bs ≡ key ++ rest
 
 -- an offset where no key goes on is one where none of the strings does that begin with a key
-pub where_bad : (IsKey Is : List ℕ → Type 0) (has_values : Type 0) (bytes : List ℕ) (p : ℕ) → ((k : List ℕ) → IsKey k → MayGoOn Is k) → ((q : List ℕ) → Is q → BeginsWith IsKey q)
-    → IsFirstBad IsKey has_values bytes p → IsFirstWrong Is has_values bytes p
-where_bad IsKey Is has_values bytes p go begin h = record {
+pub where_bad : (IsKey Is : List ℕ → Type 0) (has_values : Type 0) (bytes : List ℕ) (p : ℕ) → (has_values → (k : List ℕ) × IsKey k) → ((k : List ℕ) → IsKey k → MayGoOn Is k) → ((q : List ℕ) → Is q → BeginsWith IsKey q)
+    → IsFirstBad IsKey bytes p → IsFirstWrong Is has_values bytes p
+where_bad IsKey Is has_values bytes p some go begin h = record {
   within = h.within;
-  before = λ v. goes_on (h.before v);
+  before = λ v. either v h.before;
   wrong = λ l w. let b = begin (take (suc p) bytes ++ w.more) w.is_one in h.bad l (record { key = b.key; more = w.more; rest = b.rest; is_one = b.is_key; is = b.is });
   none = λ one. let b = begin bytes one in h.no_key b.key b.rest b.is_key b.is;
 }
@@ -60,6 +60,13 @@ where_bad IsKey Is has_values bytes p go begin h = record {
 
     goes_on : MayBegin IsKey (take p bytes) → MayGoOn Is (take p bytes)
     goes_on w = longer w (either_longer (take p bytes) w.key w.more w.rest w.is)
+
+    either : has_values → (p ≡ 0) ⊎ MayBegin IsKey (take p bytes) → MayGoOn Is (take p bytes)
+    either v (inl none) =
+        let (k, one) = some v in
+        let g = go k one in
+        subst (λ n. MayGoOn Is (take n bytes)) (sym none) (record { more = k ++ g.more; is_one = g.is_one })
+    either v (inr w) = goes_on w
 
 -- ---- where more comes after a whole string
 

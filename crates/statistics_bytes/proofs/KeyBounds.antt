@@ -3,14 +3,14 @@ use Rattle.std.proofs.Common.{◌≡◌, ℕ, Bool, true, false, List, [], ◌++
 use Rattle.std.proofs.lemmas.Bool.{false≢true}
 use Rattle.std.proofs.lemmas.List.{append-nil}
 use Rattle.vortex_dtype.specs.TypeTree.{TypeTree}
-use Rattle.vortex_value.specs.TypesWithin.{HasNoVariant, UnionsHaveVariants}
+use Rattle.vortex_value.specs.TypesWithin.{HasNoVariant}
 use Rattle.vortex_value.specs.Values.Content.{Content, content, null, truth, whole, text, string, sequence, tagged, typed}
 use Rattle.vortex_row.specs.Columns.{key_with}
 use Rattle.vortex_row.specs.Decoded.{IsFirstBad, IsKeyOf}
 use Rattle.vortex_row.specs.Keys.{key}
 use Rattle.vortex_row.specs.Laws.{KeysAreApart, ValuesHaveNoTyped}
 use Rattle.statistics_bytes.specs.Encoding.{IsBoundOf, IsEncodingOf, bound_bytes}
-use Rattle.statistics_bytes.specs.EncodingAnswers.{IsFirstWrong}
+use Rattle.statistics_bytes.specs.EncodingAnswers.{HasValues, IsFirstWrong}
 use Rattle.statistics_bytes.specs.EncodingSteps.{AreBoundKeys, IsBoundKey, IsKeyIn, ascending, flags_of, is_there, state_at, state_of}
 use Rattle.vortex_statistics.specs.Statistics.{Known, KnownBound}
 use Rattle.statistics_bytes.specs.declared.flags.BoundState.{BoundState}
@@ -118,20 +118,27 @@ some_key t Missing k h = ([], refl)
 some_key t Inexact k h = (k, h)
 some_key t Exact k h = (k, h)
 
-pub wrong_lower : (t : TypeTree) (l u : BoundState) (bytes : List ℕ) (p : ℕ) → is_there l ≡ true → HasNoVariant t → IsFirstBad (IsKeyOf ascending t) (UnionsHaveVariants t) bytes p
-    → IsFirstWrong (AreBoundKeys t l u) (UnionsHaveVariants t) bytes p
+-- the key of some value
+key_of_value : (t : TypeTree) → HasValues t → (k : List ℕ) × IsKeyOf ascending t k
+key_of_value t h = (
+  key_with ascending (content h.value),
+  record { value = h.value; begins = record { value = h.is_value; is = sym (append-nil (key_with ascending (content h.value))) } },
+)
+
+pub wrong_lower : (t : TypeTree) (l u : BoundState) (bytes : List ℕ) (p : ℕ) → is_there l ≡ true → HasNoVariant t → IsFirstBad (IsKeyOf ascending t) bytes p
+    → IsFirstWrong (AreBoundKeys t l u) (HasValues t) bytes p
 wrong_lower t l u bytes p there ordered h =
-    where_bad (IsKeyOf ascending t) (AreBoundKeys t l u) (UnionsHaveVariants t) bytes p
+    where_bad (IsKeyOf ascending t) (AreBoundKeys t l u) (HasValues t) bytes p (key_of_value t)
     (λ k one. let made : IsKeyIn t k = record { ordered = ordered; key = one } in
     let more = some_key t u k made in
     record { more = more.0; is_one = record { first = k; second = more.0; is_lower = key_there t l k there made; is_upper = more.1; is = refl } })
     (λ q one. record { key = one.first; rest = one.second; is_key = (of_there t l one.first there one.is_lower).key; is = one.is })
     h
 
-pub wrong_last : (t : TypeTree) (u : BoundState) (bytes : List ℕ) (p : ℕ) → is_there u ≡ true → HasNoVariant t → IsFirstBad (IsKeyOf ascending t) (UnionsHaveVariants t) bytes p
-    → IsFirstWrong (IsBoundKey t u) (UnionsHaveVariants t) bytes p
+pub wrong_last : (t : TypeTree) (u : BoundState) (bytes : List ℕ) (p : ℕ) → is_there u ≡ true → HasNoVariant t → IsFirstBad (IsKeyOf ascending t) bytes p
+    → IsFirstWrong (IsBoundKey t u) (HasValues t) bytes p
 wrong_last t u bytes p there ordered h =
-    where_bad (IsKeyOf ascending t) (IsBoundKey t u) (UnionsHaveVariants t) bytes p
+    where_bad (IsKeyOf ascending t) (IsBoundKey t u) (HasValues t) bytes p (key_of_value t)
     (λ k one. record { more = []; is_one = subst (IsBoundKey t u) (sym (append-nil k)) (key_there t u k there (record { ordered = ordered; key = one })) })
     (λ q one. record { key = q; rest = []; is_key = (of_there t u q there one).key; is = sym (append-nil q) })
     h

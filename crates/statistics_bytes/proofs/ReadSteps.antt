@@ -6,7 +6,7 @@ use Rattle.std.proofs.Math.Seq.{drop-nil}
 use Rattle.std.proofs.lemmas.Bool.{false≢true}
 use Rattle.std.proofs.lemmas.List.{append_assoc, drop_at, drop_more, length-drop}
 use Rattle.vortex_dtype.specs.TypeTree.{TypeTree}
-use Rattle.vortex_value.specs.TypesWithin.{HasNoVariant, UnionsHaveVariants}
+use Rattle.vortex_value.specs.TypesWithin.{HasNoVariant}
 use Rattle.vortex_value.specs.Validity.{Valid}
 use Rattle.vortex_value.specs.Values.Scalars.{IsValid, scalar_content, scalar_raw}
 use Rattle.vortex_value.specs.declared.scalars.Scalar.{Scalar}
@@ -89,52 +89,52 @@ key_read o t exact x bytes place n same ordered inside given =
       };
     }
 
-pub no_key : (o : SortOptions) (t : TypeTree) (exact : Bool) (start : ℕ) (old : List ℕ) (place : ℕ) → o ≡ ascending → IsFirstBad (IsKeyOf o t) (UnionsHaveVariants t) old place
+pub no_key : (o : SortOptions) (t : TypeTree) (exact : Bool) (start : ℕ) (old : List ℕ) (place : ℕ) → o ≡ ascending → IsFirstBad (IsKeyOf o t) old place
     → IsBadBound t (state_at exact) start old (BadBytes (start + place))
-no_key o t exact start old place same h = inr (place, refl, state-there exact, subst (λ q. IsFirstBad (IsKeyOf q t) (UnionsHaveVariants t) old place) same h)
+no_key o t exact start old place same h = inr (place, refl, state-there exact, subst (λ q. IsFirstBad (IsKeyOf q t) old place) same h)
 
 -- ---- the last bound
 
 pub last_refused : (t : TypeTree) (u : BoundState) (start : ℕ) (old : List ℕ) (e : StatisticsError) → (is_there u ≡ true → HasNoVariant t) → IsBadBound t u start old e
-    → IsRefusal (IsBoundKey t u) (is_there u ≡ true) (is_there u ≡ true → UnionsHaveVariants t) start old e
+    → IsRefusal (IsBoundKey t u) (is_there u ≡ true) (is_there u ≡ true → HasValues t) start old e
 last_refused t u start old e ordered (inl memory) = inl memory
-last_refused t u start old e ordered (inr h) = inr (h.0, h.1, weaker (IsBoundKey t u) (UnionsHaveVariants t) _ old h.0 (λ v. v h.2) (wrong_last t u old h.0 h.2 (ordered h.2) h.3))
+last_refused t u start old e ordered (inr h) = inr (h.0, h.1, weaker (IsBoundKey t u) (HasValues t) _ old h.0 (λ v. v h.2) (wrong_last t u old h.0 h.2 (ordered h.2) h.3))
 
 bound_key : (t : TypeTree) (u : BoundState) (b : Option KnownBound) → IsBoundOf t b → state_of b ≡ u → IsBoundKey t u (bound_bytes b)
 bound_key t u b h e = subst (λ s. IsBoundKey t s (bound_bytes b)) e (key_from t b h)
 
 pub more_left : KeysAreApart → ValuesHaveNoTyped → (t : TypeTree) (u : BoundState) (b : Option KnownBound) (bytes : List ℕ) (place next : ℕ) → IsBoundReadAt t u b bytes place next → next < length bytes
-    → IsRefusal (IsBoundKey t u) (is_there u ≡ true) (is_there u ≡ true → UnionsHaveVariants t) place (drop place bytes) (BadBytes next)
+    → IsRefusal (IsBoundKey t u) (is_there u ≡ true) (is_there u ≡ true → HasValues t) place (drop place bytes) (BadBytes next)
 more_left apart untyped t u b bytes place next h some =
     let key = bound_key t u b h.bound.of_type h.bound.state_is in
     let split : drop place bytes ≡ bound_bytes b ++ get_or bytes next 0 ∷ drop (next + 1) bytes = h.bound.is ∙ ap (λ ys. bound_bytes b ++ ys) (drop_more bytes next 0 some) in
     inr (
       length (bound_bytes b),
       ap BadBytes h.after,
-      subst (λ xs. IsFirstWrong (IsBoundKey t u) (is_there u ≡ true → UnionsHaveVariants t) xs (length (bound_bytes b))) (sym split)
+      subst (λ xs. IsFirstWrong (IsBoundKey t u) (is_there u ≡ true → HasValues t) xs (length (bound_bytes b))) (sym split)
           (where_more (IsBoundKey t u) _ (bound_bytes b) (get_or bytes next 0) (drop (next + 1) bytes) key (λ xs more. alone apart untyped t u (bound_bytes b) xs key more)),
     )
 
 -- ---- both bounds
 
 pub lower_refused : (t : TypeTree) (f : Flags) (start : ℕ) (old : List ℕ) (e : StatisticsError) → (has_bound f ≡ true → HasNoVariant t) → IsBadBound t f.lower start old e
-    → IsRefusal (AreBoundKeys t f.lower f.upper) (has_bound f ≡ true) (has_bound f ≡ true → UnionsHaveVariants t) start old e
+    → IsRefusal (AreBoundKeys t f.lower f.upper) (has_bound f ≡ true) (has_bound f ≡ true → HasValues t) start old e
 lower_refused t f start old e ordered (inl memory) = inl (memory.0, either-left f.lower f.upper memory.1)
 lower_refused t f start old e ordered (inr h) =
     let there : has_bound f ≡ true = either-left f.lower f.upper h.2 in
-    inr (h.0, h.1, weaker (AreBoundKeys t f.lower f.upper) (UnionsHaveVariants t) _ old h.0 (λ v. v there) (wrong_lower t f.lower f.upper old h.0 h.2 (ordered there) h.3))
+    inr (h.0, h.1, weaker (AreBoundKeys t f.lower f.upper) (HasValues t) _ old h.0 (λ v. v there) (wrong_lower t f.lower f.upper old h.0 h.2 (ordered there) h.3))
 
 pub upper_refused : KeysAreApart → ValuesHaveNoTyped → (t : TypeTree) (f : Flags) (b : Option KnownBound) (bytes : List ℕ) (place next : ℕ) (e : StatisticsError) → IsBoundReadAt t f.lower b bytes place next
-    → IsRefusal (IsBoundKey t f.upper) (is_there f.upper ≡ true) (is_there f.upper ≡ true → UnionsHaveVariants t) next (drop next bytes) e
-    → IsRefusal (AreBoundKeys t f.lower f.upper) (has_bound f ≡ true) (has_bound f ≡ true → UnionsHaveVariants t) place (drop place bytes) e
+    → IsRefusal (IsBoundKey t f.upper) (is_there f.upper ≡ true) (is_there f.upper ≡ true → HasValues t) next (drop next bytes) e
+    → IsRefusal (AreBoundKeys t f.lower f.upper) (has_bound f ≡ true) (has_bound f ≡ true → HasValues t) place (drop place bytes) e
 upper_refused apart untyped t f b bytes place next e h (inl memory) = inl (memory.0, either-right f.lower f.upper memory.1)
 upper_refused apart untyped t f b bytes place next e h (inr w) =
     let front = bound_bytes b in
-    let last : IsFirstWrong (IsBoundKey t f.upper) (has_bound f ≡ true → UnionsHaveVariants t) (drop next bytes) w.0 = weaker (IsBoundKey t f.upper) _ _ (drop next bytes) w.0 (λ v i. v (either-right f.lower f.upper i)) w.2 in
+    let last : IsFirstWrong (IsBoundKey t f.upper) (has_bound f ≡ true → HasValues t) (drop next bytes) w.0 = weaker (IsBoundKey t f.upper) _ _ (drop next bytes) w.0 (λ v i. v (either-right f.lower f.upper i)) w.2 in
     let step = after_lower apart untyped t f.lower f.upper front (bound_key t f.lower b h.bound.of_type h.bound.state_is) in
     let all = after_front (AreBoundKeys t f.lower f.upper) (IsBoundKey t f.upper) _ front (drop next bytes) w.0 step last in
     let from : next + w.0 ≡ place + (length front + w.0) = omega (arith, h.after) in
-    inr (length front + w.0, w.1 ∙ ap BadBytes from, subst (λ xs. IsFirstWrong (AreBoundKeys t f.lower f.upper) (has_bound f ≡ true → UnionsHaveVariants t) xs (length front + w.0)) (sym h.bound.is) all)
+    inr (length front + w.0, w.1 ∙ ap BadBytes from, subst (λ xs. IsFirstWrong (AreBoundKeys t f.lower f.upper) (has_bound f ≡ true → HasValues t) xs (length front + w.0)) (sym h.bound.is) all)
 
 -- ---- the whole encoding
 
@@ -157,7 +157,7 @@ counts_refused t bytes f e small start ordered is short =
     inr (inr (length bytes, is ∙ ap BadBytes (sym (zero-add (length bytes))), subst Wrong (sym start.1) (cut_off t f rest (λ k. less (suc (suc k))) (omega arith) ordered)))
 
 pub bounds_refused : (t : TypeTree) (bytes : List ℕ) (f : Flags) (rows : ℕ) (nulls : Option ℕ) (end : ℕ) (e : StatisticsError) → (rest : List ℕ) × (bytes ≡ 1 ∷ flags_byte f ∷ rest)
-    → IsCountsRead f.has_null_count rows nulls (drop 2 bytes) (drop end bytes) → end ≤ length bytes → IsRefusal (AreBoundKeys t f.lower f.upper) (has_bound f ≡ true) (has_bound f ≡ true → UnionsHaveVariants t) end (drop end bytes) e
+    → IsCountsRead f.has_null_count rows nulls (drop 2 bytes) (drop end bytes) → end ≤ length bytes → IsRefusal (AreBoundKeys t f.lower f.upper) (has_bound f ≡ true) (has_bound f ≡ true → HasValues t) end (drop end bytes) e
     → IsBadEncoding t bytes e
 bounds_refused t bytes f rows nulls end e start counts inside (inl memory) = inr (inl (memory.0, subst SaysBound (sym start.1) (bytes_say f start.0 memory.1)))
 bounds_refused t bytes f rows nulls end e start counts inside (inr w) =
@@ -169,7 +169,7 @@ bounds_refused t bytes f rows nulls end e start counts inside (inr w) =
     let place : end ≡ length front = omega (arith, length-append front (drop end bytes), length-drop end bytes) in
     let says : has_bound f ≡ true → SaysBound bytes = λ some. subst SaysBound (sym start.1) (bytes_say f start.0 some) in
     let head : IsHead f rows nulls = record { rows_fit = counts.rows_fit; nulls_fit = counts.nulls_fit; known = counts.known } in
-    let last : IsFirstWrong (AreBoundKeys t f.lower f.upper) (SaysBound bytes → HasValues t) (drop end bytes) w.0 = weaker (AreBoundKeys t f.lower f.upper) _ _ (drop end bytes) w.0 (λ v some. (v (says some)).unions) w.2 in
+    let last : IsFirstWrong (AreBoundKeys t f.lower f.upper) (SaysBound bytes → HasValues t) (drop end bytes) w.0 = weaker (AreBoundKeys t f.lower f.upper) _ _ (drop end bytes) w.0 (λ v some. v (says some)) w.2 in
     let wrong = after_front (IsEncodingOf t) (AreBoundKeys t f.lower f.upper) (SaysBound bytes → HasValues t) front (drop end bytes) w.0 (after_head t f rows nulls head) last in
     let from : end + w.0 ≡ 0 + (length front + w.0) = omega arith in
     inr (inr (length front + w.0, w.1 ∙ ap BadBytes from, subst (λ xs. IsFirstWrong (IsEncodingOf t) (SaysBound bytes → HasValues t) xs (length front + w.0)) (sym whole) wrong))

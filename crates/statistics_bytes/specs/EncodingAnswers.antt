@@ -1,7 +1,6 @@
 -- What reading an encoding answers: the statistics that were written, or the first byte that no encoding has there.
 use Rattle.std.specs.Prelude.{◌≡◌, ◌⊎◌, ℕ, suc, ◌<◌, ◌≤◌, List, ◌∷◌, ◌++◌, length, map, take, IfSome, IsSome, Result, MatchResult}
 use Rattle.vortex_dtype.specs.TypeTree.{Same, TypeTree}
-use Rattle.vortex_value.specs.TypesWithin.{UnionsHaveVariants}
 use Rattle.vortex_value.specs.Values.RawTree.{RawTree}
 use Rattle.vortex_row.specs.Decoded.{IsValueOf}
 use Rattle.vortex_cells.specs.Cells.{Cell}
@@ -37,9 +36,8 @@ pub record SaysBound (bytes : List ℕ) : Type 0 where
   pub rest : List ℕ
   pub is : bytes ≡ 1 ∷ flags statistics ∷ rest
 
--- each union in the type has a variant, and memory can hold a value of the type
+-- memory can hold a value of the type
 pub record HasValues (t : TypeTree) : Type 0 where
-  pub unions : UnionsHaveVariants t
   pub value : RawTree
   pub is_value : IsValueOf t value
 

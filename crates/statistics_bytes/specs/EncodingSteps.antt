@@ -1,8 +1,9 @@
 -- What the steps of writing and of reading an encoding answer.
 use Rattle.std.specs.Prelude.{◌≡◌, ◌≢◌, ◌⊎◌, ℕ, ◌+◌, ◌*◌, ◌<◌, ◌≤◌, ◌^◌, Bool, true, false, List, [], ◌∷◌, ◌++◌, drop, length, Option, Some, None, IfSome, is_some}
 use Rattle.vortex_dtype.specs.TypeTree.{TypeTree}
-use Rattle.vortex_value.specs.TypesWithin.{HasNoVariant, UnionsHaveVariants}
+use Rattle.vortex_value.specs.TypesWithin.{HasNoVariant}
 use Rattle.vortex_row.specs.Decoded.{IsFirstBad, IsKeyOf}
+use Rattle.vortex_row.specs.Typed.{HasKey}
 use Rattle.vortex_row.specs.declared.options.SortOptions.{SortOptions}
 use Rattle.statistics_bytes.specs.Encoding.{IsBoundOf, IsEncodingOf, bound_bytes, count_bytes, known_count_bytes}
 use Rattle.statistics_bytes.specs.EncodingAnswers.{HasValues, IsFirstWrong, SaysBound}
@@ -80,11 +81,11 @@ counts_length false = 8
 abbrev pub ascending : SortOptions
 ascending = record { descending = false; nulls_first = true }
 
--- no variant stands in the type of the bound, if it is there
+-- no variant stands in the type or in the content of the bound, if it is there
 abbrev pub HasNoVariantIn : Option KnownBound → Type 0
-HasNoVariantIn b = IfSome b (λ b. HasNoVariant b.value.typed)
+HasNoVariantIn b = IfSome b (λ b. HasKey b.value.typed b.value.content)
 
--- nor in that of either bound
+-- nor in those of either bound
 pub record HasNoVariants (s : Known) : Type 0 where
   pub lower : HasNoVariantIn s.lower
   pub upper : HasNoVariantIn s.upper
@@ -130,7 +131,7 @@ pub record AreBoundsRead (t : TypeTree) (flags : Flags) (lower upper : Option Kn
 -- why no key was read of a bound that is there: there is no memory, or the offset after start where no key goes on
 abbrev pub IsBadBound : TypeTree → BoundState → ℕ → List ℕ → StatisticsError → Type 0
 IsBadBound t state start old e = ((e ≡ OutOfMemory) × (is_there state ≡ true))
-    ⊎ ((place : ℕ) × (e ≡ BadBytes (start + place)) × (is_there state ≡ true) × IsFirstBad (IsKeyOf ascending t) (UnionsHaveVariants t) old place)
+    ⊎ ((place : ℕ) × (e ≡ BadBytes (start + place)) × (is_there state ≡ true) × IsFirstBad (IsKeyOf ascending t) old place)
 
 -- why bytes are refused that should be one of the strings: there is no memory, which some take, or the offset after start of
 -- the first wrong byte

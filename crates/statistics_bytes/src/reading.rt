@@ -8,7 +8,7 @@ ghost use Rattle.statistics_bytes.specs.Words.{HasValidBounds, HasValues, HasVar
 ghost use Rattle.statistics_bytes.specs.Words.{IsBoundKey, IsBoundRead, IsBoundReadAt, IsCountsRead, IsFirstWrong};
 ghost use Rattle.statistics_bytes.specs.Words.{IsEncodingOf, IsRefusal, IsValid, IsValidBound, IsWrongStart};
 ghost use Rattle.statistics_bytes.specs.Words.{OutOfMemory, ReadsAs, ReadsInto, ReadsRight, SaysBound};
-ghost use Rattle.statistics_bytes.specs.Words.{UnionsHaveVariants, count_bytes, counts_length, flags_byte, encoding};
+ghost use Rattle.statistics_bytes.specs.Words.{count_bytes, counts_length, flags_byte, encoding};
 ghost use Rattle.statistics_bytes.specs.Words.{has_bound, is_there, known, known_bound, state_at, type_of};
 
 use crate::flags::{BoundState, Flags, flags_from};
@@ -231,7 +231,7 @@ fn read_bounds(
     ensures valid { OnOk result (IsValidBound lower.new × IsValidBound upper.new) }
     ensures refused { IfErr result (IsRefusal
         (AreBoundKeys (type_of dtype.now) flags.lower flags.upper) (has_bound flags ≡ true)
-        (has_bound flags ≡ true → UnionsHaveVariants (type_of dtype.now))
+        (has_bound flags ≡ true → HasValues (type_of dtype.now))
         place (drop place bytes.now)) }
 {
     keys_are_apart();
@@ -256,7 +256,7 @@ fn read_last_bound(
         (option_map known_bound bound.new) (drop place bytes.now) []) }
     ensures valid { OnOk result (IsValidBound bound.new) }
     ensures refused { IfErr result (IsRefusal (IsBoundKey (type_of dtype.now) state) (is_there state ≡ true)
-        (is_there state ≡ true → UnionsHaveVariants (type_of dtype.now))
+        (is_there state ≡ true → HasValues (type_of dtype.now))
         place (drop place bytes.now)) }
 {
     keys_are_apart();

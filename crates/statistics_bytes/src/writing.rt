@@ -2,7 +2,7 @@
 
 ghost use Rattle.std.specs.Prelude.{◌≡◌, ◌++◌, ◌+◌, ◌<◌, ◌≤◌, ◌^◌, ◌↔◌, ◌⊎◌, ℕ, List, Err, IfErr, IfSome, IsOk, OnErr};
 ghost use Rattle.std.specs.Prelude.{OnOk, length, option_map};
-ghost use Rattle.statistics_bytes.specs.Words.{Appends, HasNoVariant, HasNoVariantIn, HasNoVariants, HasRoom};
+ghost use Rattle.statistics_bytes.specs.Words.{Appends, HasKey, HasNoVariant, HasNoVariantIn, HasNoVariants, HasRoom};
 ghost use Rattle.statistics_bytes.specs.Words.{HasVariant, IsHeld, IsHeldBound, IsHeldKnown, OutOfMemory, ascending};
 ghost use Rattle.statistics_bytes.specs.Words.{bound_bytes, count_bytes, encoding, key, known, known_bound};
 ghost use Rattle.statistics_bytes.specs.Words.{known_count_bytes, option_copied, scalar_content, scalar_type, type_of};
@@ -11,16 +11,16 @@ ghost use Rattle.statistics_bytes.specs.Words.{vec_capacity, vec_len};
 use crate::flags::flags_of;
 use vortex_cells::has_variant;
 use vortex_dtype::DType;
-use vortex_row::{SortOptions, append_key, append_row_key};
+use vortex_row::{SortOptions, append_key, append_row_key, has_key};
 use vortex_statistics::{Bound, ColumnStatistics, StatisticsError};
-use vortex_value::ScalarRef;
+use vortex_value::{Scalar, ScalarRef};
 
 /// The version of the layout: the first byte of each encoding.
 pub(crate) const VERSION: u8 = 1;
 
 /// Appends the encoding of statistics in bytes, and nothing else.
 ///
-/// `HasVariant` exactly if a variant stands in the type of a bound, at any depth. Else
+/// `HasVariant` exactly if a variant stands in the type of a bound or in a bound, at any depth. Else
 /// `OutOfMemory` is the only refusal, and never comes if `out` has capacity for the encoding. After
 /// a refusal `out` has the bytes that it had. The bounds need not be valid for their types.
 pub fn append_statistics(
@@ -61,7 +61,19 @@ pub(crate) fn expect_keys(dtype: &DType) -> Result<(), StatisticsError>
     Ok(())
 }
 
-/// `HasVariant` exactly if a variant stands in the type of the bound, if there is one.
+/// `HasVariant` exactly if a variant stands in the scalar or in its type, at any depth.
+fn expect_key(scalar: &Scalar) -> Result<(), StatisticsError>
+    ensures keyed { OnOk result (HasKey (scalar_type scalar.now) (scalar_content scalar.now)) }
+    ensures refused { IfErr result (λ e. (e ≡ HasVariant)
+        × ¬ (HasKey (scalar_type scalar.now) (scalar_content scalar.now))) }
+{
+    if !has_key(ScalarRef::of(scalar)) {
+        return Err(StatisticsError::HasVariant);
+    }
+    Ok(())
+}
+
+/// `HasVariant` exactly if a variant stands in the bound or in its type, if there is one.
 fn expect_no_variant(bound: Option<&Bound>) -> Result<(), StatisticsError>
     ensures ordered { OnOk result
         (HasNoVariantIn (option_map known_bound (option_copied bound.entry))) }
@@ -69,7 +81,7 @@ fn expect_no_variant(bound: Option<&Bound>) -> Result<(), StatisticsError>
         × ¬ (HasNoVariantIn (option_map known_bound (option_copied bound.entry)))) }
 {
     match bound {
-        Some(bound) => expect_keys(bound.value.dtype()),
+        Some(bound) => expect_key(&bound.value),
         None => Ok(()),
     }
 }
@@ -166,7 +178,7 @@ pub(crate) fn ascending() -> SortOptions
 /// Appends the key of a bound.
 #[tactic(auto, using(crate::proofs::WriteSteps::keys))]
 fn append_one(bound: &Bound, out: &mut Vec<u8>) -> Result<(), StatisticsError>
-    requires { HasNoVariant (scalar_type bound.now.value) }
+    requires { HasKey (scalar_type bound.now.value) (scalar_content bound.now.value) }
     ensures appended { OnOk result
         (out.new.items ≡ out.old.items ++ key (scalar_content bound.now.value)) }
     ensures held { OnOk result (IsHeld (scalar_content bound.now.value)) }
@@ -183,8 +195,8 @@ fn append_one(bound: &Bound, out: &mut Vec<u8>) -> Result<(), StatisticsError>
 /// Appends the keys of two bounds, or nothing if there is no memory for both.
 #[tactic(auto, using(crate::proofs::WriteSteps::keys))]
 fn append_both(lower: &Bound, upper: &Bound, out: &mut Vec<u8>) -> Result<(), StatisticsError>
-    requires lower { HasNoVariant (scalar_type lower.now.value) }
-    requires upper { HasNoVariant (scalar_type upper.now.value) }
+    requires lower { HasKey (scalar_type lower.now.value) (scalar_content lower.now.value) }
+    requires upper { HasKey (scalar_type upper.now.value) (scalar_content upper.now.value) }
     ensures appended { OnOk result (out.new.items ≡ out.old.items
         ++ (key (scalar_content lower.now.value) ++ key (scalar_content upper.now.value))) }
     ensures held_lower { OnOk result (IsHeld (scalar_content lower.now.value)) }

@@ -11,13 +11,14 @@ use vortex_cells::has_variant;
 use vortex_dtype::{DType, VortexError};
 use vortex_row::{
     RowEncoder, RowError, SortOptions, append_key, append_row_key, compare_keys, decode_key,
-    decode_row_key, key_length, plain_key_length, write_plain_key,
+    decode_row_key, has_key, key_length, plain_key_length, write_plain_key,
 };
 use vortex_value::{Scalar, ScalarRef, ScalarValue};
 
 #[derive(Clone, Copy)]
 enum Call {
     Key,
+    HasKey,
     Length,
     FromKey,
     PlainKey,
@@ -28,8 +29,9 @@ enum Call {
     SortedByOrder,
 }
 
-const CALLS: [Named<Call, Input>; 9] = [
+const CALLS: [Named<Call, Input>; 10] = [
     ("key", Call::Key, &[Input::Scalar, Input::Sorting]),
+    ("has_key", Call::HasKey, &[Input::Scalar]),
     ("key_length", Call::Length, &[Input::Scalar]),
     (
         "from_key",
@@ -126,6 +128,7 @@ fn answer_of(alloc: Global, call: Call, given: &KeyInputs) -> KeyResult {
     let scalar = &given.scalar;
     match call {
         Call::Key => key(alloc, scalar, given.sorting),
+        Call::HasKey => Ok(KeyAnswer::Truth(has_key(ScalarRef::of(scalar)))),
         Call::Length => Ok(KeyAnswer::Length(key_length(ScalarRef::of(scalar)))),
         Call::FromKey => {
             match decode_key(alloc, &given.dtype, given.sorting, given.bytes.as_slice()) {

@@ -1,7 +1,7 @@
 -- Steps of preparing a filter.
 use Rattle.std.proofs.Common.{◌≡◌, ℕ, ◌+◌, ◌^◌, ◌<◌, ◌≤◌, ◌⊎◌, inl, inr, List, [], ◌∷◌, ◌++◌, length, take, get_or, map, sym, subst, ap, ap₂, ◌∙◌, arith, Some, slice_get}
 use Rattle.std.specs.Global.{Global}
-use Rattle.std.specs.Prelude.{Err, IfErr, IfOk, IsErr, IsErrAnd, Ok, OnOk, Result, Vec}
+use Rattle.std.specs.Prelude.{Err, IfErr, IfOk, IsErr, IsErrAnd, Ok, Result, Vec}
 use Rattle.std.specs.Str.{IsUtf8}
 use Rattle.std.proofs.lemmas.Bool.{cases_lt}
 use Rattle.std.proofs.lemmas.List.{map-append, take_all, take_more}

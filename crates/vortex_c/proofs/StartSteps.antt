@@ -1,5 +1,5 @@
 -- A column without rows begins with its buffers: it has as many rows and the same cells.
-use Rattle.std.proofs.Common.{◌≡◌, ◌∙◌, ℕ, ℤ, ◌==◌, if◌then◌else◌, Bool, true, false, List, map, arith, ap, refl, sym, Option}
+use Rattle.std.proofs.Common.{◌≡◌, ◌∙◌, ℕ, ◌==◌, if◌then◌else◌, Bool, true, false, map, arith, ap, refl, sym, Option}
 use Rattle.std.specs.List.{range_with_len}
 use Rattle.std.proofs.lemmas.Bool.Decides.{nat_tests}
 use Rattle.arrow_columns.specs.Cells.{cell_at}

@@ -14,7 +14,7 @@ use Rattle.vortex_row.specs.Decoded.{BeginsWithKey, DecodesInto, DecodesTo, IsDe
 use Rattle.vortex_row.specs.Held.{AreBytes}
 use Rattle.vortex_row.specs.Keys.{inverted, key}
 use Rattle.vortex_row.specs.ColumnReading.{HasColumn, IsColumnKey, IsRefusal}
-use Rattle.vortex_row.specs.Reading.{AllHaveValues, BeginAlike, HasRead, HasValues, IsInverted, IsKey, IsPlain, IsPresent, IsStuck}
+use Rattle.vortex_row.specs.Reading.{AllHaveValues, BeginAlike, HasRead, HasValues, IsInverted, IsKey, IsKeyed, IsPlain, IsPresent, IsStuck}
 use Rattle.vortex_cells.specs.Variants.{HasByteIds, HaveByteIds}
 use Rattle.vortex_row.specs.declared.error.RowError.{RowError}
 use Rattle.vortex_row.specs.declared.error.RowError.TheVariants.{BadKey, OutOfMemory}
@@ -22,10 +22,10 @@ use Rattle.vortex_row.specs.declared.options.SortOptions.{SortOptions}
 use Rattle.vortex_row.proofs.ApartLaws.{column-apart}
 use Rattle.vortex_row.proofs.KeyLaws.{values_have_no_typed}
 use Rattle.vortex_row.proofs.OrderLaws.{key-bytes}
-use Rattle.vortex_row.proofs.PartSteps.{null_valid, null_allowed, some_value}
+use Rattle.vortex_row.proofs.PartSteps.{null_valid, null_allowed}
 use Rattle.vortex_row.proofs.PlaceLaws.{first_of}
-use Rattle.vortex_row.proofs.ReaderSteps.{at-once, inverted-append, inverted-are_bytes, inverted-back, take-more, take-then}
-use Rattle.vortex_row.proofs.StuckLaws.{Some, not-stuck, stuck-inverted, stuck-within}
+use Rattle.vortex_row.proofs.ReaderSteps.{at-once, inverted-append, inverted-are_bytes, inverted-back, take-length, take-more, take-then}
+use Rattle.vortex_row.proofs.StuckLaws.{not-stuck, stuck-inverted, stuck-within}
 use Rattle.vortex_row.proofs.ByteLaws.{inverted-length}
 
 -- a column's key of a value that is no null
@@ -147,19 +147,18 @@ same_ends [] (y ∷ ys) zs e = let long = ap length e in let more = length-appen
 same_ends (x ∷ xs) [] zs e = let long = ap length e in let more = length-append xs zs in absurd (omega arith)
 same_ends (x ∷ xs) (y ∷ ys) zs e = let first : x ≡ y = cc in ap₂ (λ b bs. b ∷ bs) first (same_ends xs ys zs (cc))
 
-bad-before : (IsOne : List ℕ → Type 0) (done : List ℕ) → Some IsOne → (done ≡ []) ⊎ ((more : List ℕ) × IsOne (done ++ more)) → MayBegin IsOne done
-bad-before IsOne done some (inl none) = record { key = some.0; more = some.0; rest = []; is_one = some.1; is = ap (λ ds. ds ++ some.0) none ∙ sym (append-nil some.0) }
-bad-before IsOne done some (inr h) = record { key = done ++ h.0; more = h.0; rest = []; is_one = h.1; is = sym (append-nil (done ++ h.0)) }
+bad-before : (IsOne : List ℕ → Type 0) (done : List ℕ) (place : ℕ) → place ≡ length done → (done ≡ []) ⊎ ((more : List ℕ) × IsOne (done ++ more)) → (place ≡ 0) ⊎ MayBegin IsOne done
+bad-before IsOne done place count (inl none) = inl (count ∙ ap length none)
+bad-before IsOne done place count (inr h) = inr (record { key = done ++ h.0; more = h.0; rest = []; is_one = h.1; is = sym (append-nil (done ++ h.0)) })
 
-pub first-bad : (IsOne Is : List ℕ → Type 0) (all has : Type 0) (bytes : List ℕ) (place : ℕ) → Alike IsOne Is → (all → has) → (has → Some Is) → place ≤ length bytes → IsStuck has Is bytes (drop place bytes)
-    → IsFirstBad IsOne all bytes place
-first-bad IsOne Is all has bytes place same weaker some within stuck =
+pub first-bad : (IsOne Is : List ℕ → Type 0) (has : Type 0) (bytes : List ℕ) (place : ℕ) → Alike IsOne Is → has → place ≤ length bytes → IsStuck has Is bytes (drop place bytes)
+    → IsFirstBad IsOne bytes place
+first-bad IsOne Is has bytes place same holds within stuck =
     let done : stuck.done ≡ take place bytes = same_ends stuck.done (take place bytes) (drop place bytes) (sym stuck.split ∙ take-then place bytes) in
+    let count : place ≡ length stuck.done = sym (take-length place bytes within) ∙ ap length (sym done) in
     record {
       within = within;
-      before = λ a.
-          let one = some (weaker a) in
-          subst (MayBegin IsOne) done (bad-before IsOne stuck.done (one.0, same.1 one.0 one.1) (to_ones (stuck.begins (weaker a))));
+      before = subst (λ ds. (place ≡ 0) ⊎ MayBegin IsOne ds) done (bad-before IsOne stuck.done place count (to_ones (stuck.begins holds)));
       bad = λ less m.
           let first : drop place bytes ≡ get_or bytes place 0 ∷ drop (suc place) bytes = at-once place bytes less in
           let alike : BeginAlike (drop place bytes) (get_or bytes place 0 ∷ m.more) = subst (λ xs. BeginAlike xs (get_or bytes place 0 ∷ m.more)) (sym first) refl in
@@ -169,7 +168,7 @@ first-bad IsOne Is all has bytes place same weaker some within stuck =
       no_key = λ k rest one e. not-stuck has Is bytes (drop place bytes) k rest stuck (same.0 k one) e;
     }
   where
-    to_ones : (stuck_done : (stuck.done ≡ []) ⊎ ((more : List ℕ) × Is (stuck.done ++ more))) → (stuck.done ≡ []) ⊎ ((more : List ℕ) × IsOne (stuck.done ++ more))
+    to_ones : (stuck.done ≡ []) ⊎ ((more : List ℕ) × Is (stuck.done ++ more)) → (stuck.done ≡ []) ⊎ ((more : List ℕ) × IsOne (stuck.done ++ more))
     to_ones (inl e) = inl e
     to_ones (inr h) = inr (h.0, same.1 (stuck.done ++ h.0) h.1)
 
@@ -204,9 +203,6 @@ mutual
   have-values no_types h k u = tt
   have-values (type_then t ts) h k u = (has-values t h.0 k.0 u.0, have-values ts h.1 k.1 u.1)
 
-pub some-column : (o : SortOptions) (t : TypeTree) → HasValues t → Some (IsColumnKey o t)
-some-column o t h = let (v, plain) = some_value t h in (key_with o (content v), record { value = v; plain = plain; is = refl })
-
 -- the answer to bytes that begin with a key is the value
 same-column : (o : SortOptions) (t : TypeTree) (v w : RawTree) (bytes rest : List ℕ) (n : ℕ) → OneValue → HasColumn o t v bytes n → IsPlain (Valid t) w → bytes ≡ key_with o (content w) ++ rest → (v ≡ w) × (n ≡ length (key_with o (content w)))
 same-column o t v w bytes rest n one h plain e =
@@ -232,37 +228,36 @@ decoded-ok o t bytes x n typed h = record {
   count = h.count;
 }
 
-pub bad-place : (o : SortOptions) (t : TypeTree) (bytes : List ℕ) (e : RowError) → HasNoVariant t → HasByteIds t → IsRefusal (HasValues t) (IsColumnKey o t) bytes e → (place : ℕ) → e ≡ BadKey place
-    → IsFirstBad (IsKeyOf o t) (UnionsHaveVariants t) bytes place
+pub bad-place : (o : SortOptions) (t : TypeTree) (bytes : List ℕ) (e : RowError) → HasNoVariant t → HasByteIds t → IsRefusal (IsKeyed t) (IsColumnKey o t) bytes e → (place : ℕ) → e ≡ BadKey place
+    → IsFirstBad (IsKeyOf o t) bytes place
 bad-place o t bytes e none ids (inl out) place is = absurd (cc)
 bad-place o t bytes e none ids (inr (at, is, within, stuck)) place is_at =
     let same : at ≡ place = cc in
-    subst (IsFirstBad (IsKeyOf o t) (UnionsHaveVariants t) bytes) same
-    (first-bad (IsKeyOf o t) (IsColumnKey o t) (UnionsHaveVariants t) (HasValues t) bytes at (keys-alike o t none) (λ u. has-values t none ids u) (some-column o t) within stuck)
+    subst (IsFirstBad (IsKeyOf o t) bytes) same (first-bad (IsKeyOf o t) (IsColumnKey o t) (IsKeyed t) bytes at (keys-alike o t none) (none, ids) within stuck)
 
 pub answers-whole : (o : SortOptions) (t : TypeTree) (bytes : List ℕ) (r : Result (Scalar × ℕ) RowError) → OneValue
-    → MatchResult r (λ p. (scalar_type p.0 ≡ t) × HasColumn o t (scalar_raw p.0) bytes p.1) (λ e. IsRefusal (HasValues t) (IsColumnKey o t) bytes e) → (v : RawTree) (rest : List ℕ) → HasNoVariant t → BeginsWithKey o t bytes v rest
+    → MatchResult r (λ p. (scalar_type p.0 ≡ t) × HasColumn o t (scalar_raw p.0) bytes p.1) (λ e. IsRefusal (IsKeyed t) (IsColumnKey o t) bytes e) → (v : RawTree) (rest : List ℕ) → HasNoVariant t → BeginsWithKey o t bytes v rest
     → DecodesTo o t v r
 answers-whole o t bytes (Ok p) one h v rest none begins = whole-ok o t bytes p.0 p.1 one none h.0 h.1 v rest begins
-answers-whole o t bytes (Err e) one h v rest none begins = whole-bad (HasValues t) o t bytes e none h v rest begins
+answers-whole o t bytes (Err e) one h v rest none begins = whole-bad (IsKeyed t) o t bytes e none h v rest begins
 
 pub answers-bad : (o : SortOptions) (t : TypeTree) (bytes : List ℕ) (r : Result (Scalar × ℕ) RowError) → HasNoVariant t → HasByteIds t
-    → MatchResult r (λ p. (scalar_type p.0 ≡ t) × HasColumn o t (scalar_raw p.0) bytes p.1) (λ e. IsRefusal (HasValues t) (IsColumnKey o t) bytes e) → (place : ℕ) → r ≡ Err (BadKey place)
-    → IsFirstBad (IsKeyOf o t) (UnionsHaveVariants t) bytes place
+    → MatchResult r (λ p. (scalar_type p.0 ≡ t) × HasColumn o t (scalar_raw p.0) bytes p.1) (λ e. IsRefusal (IsKeyed t) (IsColumnKey o t) bytes e) → (place : ℕ) → r ≡ Err (BadKey place)
+    → IsFirstBad (IsKeyOf o t) bytes place
 answers-bad o t bytes (Ok p) none ids h place e = absurd (cc)
 answers-bad o t bytes (Err e) none ids h place is = let same : e ≡ BadKey place = cc in bad-place o t bytes e none ids h place same
 
 -- the same of a scalar that stands already
 
 pub into-whole : (o : SortOptions) (t : TypeTree) (bytes : List ℕ) (x : Scalar) (r : Result ℕ RowError) → OneValue
-    → MatchResult r (λ n. (scalar_type x ≡ t) × HasColumn o t (scalar_raw x) bytes n) (λ e. IsRefusal (HasValues t) (IsColumnKey o t) bytes e) → (v : RawTree) (rest : List ℕ) → HasNoVariant t → BeginsWithKey o t bytes v rest
+    → MatchResult r (λ n. (scalar_type x ≡ t) × HasColumn o t (scalar_raw x) bytes n) (λ e. IsRefusal (IsKeyed t) (IsColumnKey o t) bytes e) → (v : RawTree) (rest : List ℕ) → HasNoVariant t → BeginsWithKey o t bytes v rest
     → DecodesInto o t v x r
 into-whole o t bytes x (Ok n) one h v rest none begins = whole-ok o t bytes x n one none h.0 h.1 v rest begins
-into-whole o t bytes x (Err e) one h v rest none begins = whole-bad (HasValues t) o t bytes e none h v rest begins
+into-whole o t bytes x (Err e) one h v rest none begins = whole-bad (IsKeyed t) o t bytes e none h v rest begins
 
 pub into-bad : (o : SortOptions) (t : TypeTree) (bytes : List ℕ) (x : Scalar) (r : Result ℕ RowError) → HasNoVariant t → HasByteIds t
-    → MatchResult r (λ n. (scalar_type x ≡ t) × HasColumn o t (scalar_raw x) bytes n) (λ e. IsRefusal (HasValues t) (IsColumnKey o t) bytes e) → (place : ℕ) → r ≡ Err (BadKey place)
-    → IsFirstBad (IsKeyOf o t) (UnionsHaveVariants t) bytes place
+    → MatchResult r (λ n. (scalar_type x ≡ t) × HasColumn o t (scalar_raw x) bytes n) (λ e. IsRefusal (IsKeyed t) (IsColumnKey o t) bytes e) → (place : ℕ) → r ≡ Err (BadKey place)
+    → IsFirstBad (IsKeyOf o t) bytes place
 into-bad o t bytes x (Ok n) none ids h place e = absurd (cc)
 into-bad o t bytes x (Err e) none ids h place is = let same : e ≡ BadKey place = cc in bad-place o t bytes e none ids h place same
 

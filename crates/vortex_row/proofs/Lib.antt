@@ -21,9 +21,11 @@ pub mod RowDecodeSteps
 pub mod RowSteps
 pub mod ShiftSteps
 pub mod SlotSteps
+pub mod SparseSteps
 pub mod StringLaws
 pub mod StringSteps
 pub mod StuckLaws
 pub mod TextLaws
 pub mod TextSteps
+pub mod TypedSteps
 pub mod ValueSteps

@@ -18,7 +18,7 @@ use Rattle.vortex_value.specs.Values.RawTree.{RawTree, absent, raw_bool, raw_int
 use Rattle.vortex_value.specs.declared.values.ScalarValue.{ScalarValue}
 use Rattle.vortex_row.specs.Held.{IsHeld}
 use Rattle.vortex_row.specs.Keys.{key, keys}
-use Rattle.vortex_row.specs.Reading.{AllHaveValues, ArePlain, AreKeys, AreSized, BeginAlike, ContinueWith, entry_type, HasRead, HasValues, HaveRead, IsChild, IsKey, IsPlain, IsPresent, IsStuck, NoneBegins, Reads}
+use Rattle.vortex_row.specs.Reading.{AllHaveValues, ArePlain, AreKeys, AreSized, BeginAlike, ContinueWith, entry_type, HasPlain, HasRead, HasValues, HavePlain, HaveRead, IsChild, IsKey, IsPlain, IsPresent, IsStuck, NoneBegins, Reads}
 use Rattle.vortex_row.specs.declared.reader.KeyDecodeError.{KeyDecodeError}
 use Rattle.vortex_row.specs.declared.reader.KeyDecodeError.TheVariants.{Bad}
 use Rattle.vortex_row.proofs.ApartLaws.{key-apart}
@@ -37,7 +37,7 @@ null_valid _ h = h
 
 -- each type that has values has one
 
-zero_fits : (k : PType) → InRange k (pos 0)
+pub zero_fits : (k : PType) → InRange k (pos 0)
 zero_fits U8 = omega arith
 zero_fits U16 = omega arith
 zero_fits U32 = omega arith
@@ -327,6 +327,16 @@ tuple-split t All of v h =
     let untyped = subst (λ x. HasNoTyped (content x)) is h.untyped in
     (keys (contents vs), record { values = vs; plain = record { kind = all; held = held; untyped = untyped }; is = refl }, ap (λ x. key (content x)) is)
 
+-- the parts of a value that a key can have
+pub tuple-parts : (t : TypeTree) (All : RawTrees → Type 0) → TupleOf t All → HasPlain (IsPresent t) → HavePlain All
+tuple-parts t All of p =
+    let (vs, is, all) = of.split p.0 p.1.kind in
+    (vs, record { kind = all; held = subst (λ x. IsHeld (content x)) is p.1.held; untyped = subst (λ x. HasNoTyped (content x)) is p.1.untyped })
+
+-- a value of these parts
+pub parts-tuple : (t : TypeTree) (All : RawTrees → Type 0) → TupleOf t All → HavePlain All → HasPlain (IsPresent t)
+parts-tuple t All of h = (raw_tuple h.0, record { kind = record { valid = of.join h.0 h.1.kind; present = refl }; held = h.1.held; untyped = h.1.untyped })
+
 pub tuple-opens : (t : TypeTree) (All : RawTrees → Type 0) → TupleOf t All → Opens t 23 (AreKeys All)
 tuple-opens t All of = record { join = tuple-join t All of; split = tuple-split t All of }
 
@@ -370,7 +380,7 @@ struct-tuple ts = record { join = λ vs h. h; split = from }
 
 -- a tagged child
 
-tagged-join : (ids : List ℕ) (ts : TypeTrees) (q : List ℕ) → IsChild ids ts q → IsKey (IsPresent (union_type [] ts ids NonNullable)) (24 ∷ q)
+pub tagged-join : (ids : List ℕ) (ts : TypeTrees) (q : List ℕ) → IsChild ids ts q → IsKey (IsPresent (union_type [] ts ids NonNullable)) (24 ∷ q)
 tagged-join ids ts q h = record {
   value = raw_union h.id h.is_key.value;
   plain = record {
@@ -426,6 +436,17 @@ child-none old now ids ts id more same e none =
         let same : id ≡ h.id = first_of id h.id zs (h.child ++ rest) (f ∙ ap (λ xs. xs ++ rest) h.is) in
         let both : Present h.type ≡ None = sym h.has ∙ ap (λ i. type_with i ids ts) (sym same) ∙ none in
         cc
+
+-- the type of the variant with the id has no value
+pub child-never : (old now : List ℕ) (ids : List ℕ) (ts : TypeTrees) (id : ℕ) (more : List ℕ) (t : TypeTree) → now ≡ old → old ≡ id ∷ more → type_with id ids ts ≡ Present t → ¬ (HasPlain (Valid t)) → IsStuck (Unit {0}) (IsChild ids ts) old now
+child-never old now ids ts id more t same e has never =
+    subst (λ xs. IsStuck (Unit {0}) (IsChild ids ts) old xs) (sym same) (stuck-here (Unit {0}) (IsChild ids ts) old (none-byte (IsChild ids ts) id old more e no_id))
+  where
+    no_id : NoneBegins (IsChild ids ts) id
+    no_id s zs rest h f =
+        let same : id ≡ h.id = first_of id h.id zs (h.child ++ rest) (f ∙ ap (λ xs. xs ++ rest) h.is) in
+        let both : Present t ≡ Present h.type = sym has ∙ ap (λ i. type_with i ids ts) same ∙ h.has in
+        never (subst (λ u. HasPlain (Valid u)) (sym (same_Some t h.type both)) (h.is_key.value, h.is_key.plain))
 
 pub child-missing : (old now : List ℕ) (ids : List ℕ) (ts : TypeTrees) → now ≡ old → old ≡ [] → IsStuck (Unit {0}) (IsChild ids ts) old now
 child-missing old now ids ts same e =

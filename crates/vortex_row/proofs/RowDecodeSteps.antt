@@ -8,24 +8,23 @@ use Rattle.vortex_dtype.specs.TypeOf.{dtype_trees, type_of}
 use Rattle.vortex_dtype.specs.TypeTree.{TypeTree, TypeTrees, no_types, type_then}
 use Rattle.vortex_dtype.specs.declared.types.DType.{DType}
 use Rattle.vortex_value.specs.Casts.{OneValue}
-use Rattle.vortex_value.specs.TypesWithin.{HaveNoVariant, AllHaveVariants}
-use Rattle.vortex_value.specs.Validity.{Valid}
+use Rattle.vortex_value.specs.TypesWithin.{HaveNoVariant}
+use Rattle.vortex_value.specs.Validity.{FieldsValid, Valid}
 use Rattle.vortex_value.specs.Values.Content.{content}
-use Rattle.vortex_value.specs.Values.RawTree.{RawTree}
+use Rattle.vortex_value.specs.Values.RawTree.{RawTree, RawTrees, no_raws, raw_then}
 use Rattle.vortex_value.specs.Values.Scalars.{scalar_content, scalar_raw, scalar_type}
 use Rattle.vortex_value.specs.declared.scalars.Scalar.{Scalar}
 use Rattle.vortex_row.specs.Columns.{key_with, row_key}
 use Rattle.vortex_row.specs.Decoded.{AreMadeOf, AreOfTypes, AreValuesOf, BeginsWithRow, DecodesRowTo, IsDecodedRow, IsFirstBad, IsRowKeyOf, values_key}
 use Rattle.vortex_row.specs.ColumnReading.{AreColumnKeys, ArePlainOf, AreScalars, HasColumn, HasColumnAt, HasRow, IsColumnKey, IsRefusal, IsRefusalAt, scalars_key}
-use Rattle.vortex_row.specs.Reading.{AllHaveValues, ContinueWith, HasValues, IsPlain, IsStuck}
+use Rattle.vortex_row.specs.Reading.{ArePlain, AreKeyed, ContinueWith, HavePlain, IsKeyed, IsPlain, IsStuck}
 use Rattle.vortex_cells.specs.Variants.{HaveByteIds}
 use Rattle.vortex_row.specs.declared.error.RowError.{RowError}
 use Rattle.vortex_row.specs.declared.error.RowError.TheVariants.{BadKey, OutOfMemory}
 use Rattle.vortex_row.specs.declared.options.SortOptions.{SortOptions}
 use Rattle.vortex_row.proofs.ApartLaws.{column-apart}
-use Rattle.vortex_row.proofs.DecodeSteps.{a_plain, first-bad, have-values}
-use Rattle.vortex_row.proofs.PartSteps.{some_value}
-use Rattle.vortex_row.proofs.StuckLaws.{Begin, Some, continue-itself, continue-then, not-stuck, stuck-later, stuck-same, stuck-within}
+use Rattle.vortex_row.proofs.DecodeSteps.{a_plain, first-bad}
+use Rattle.vortex_row.proofs.StuckLaws.{Begin, Some, continue-itself, continue-then, not-stuck, stuck-here, stuck-later, stuck-within}
 use Rattle.vortex_row.proofs.ReaderSteps.{none-left}
 
 -- after a column come the others
@@ -51,22 +50,43 @@ column-front o os t ts [] zs rest all e = absurd all
 column-front o os t ts (w ∷ ws) zs rest all e =
     (key_with o (content w), values_key os ws ++ rest, record { value = w; plain = all.0; is = refl }, e ∙ append_assoc (key_with o (content w)) (values_key os ws) rest)
 
--- each type has values, so a row has
+-- values of the types, so a row
 
-some-row : (os : List SortOptions) (ts : TypeTrees) → AllHaveValues ts → Some (AreColumnKeys os ts)
-some-row os ts h = let (vs, plain) = values ts h in (values_key os vs, record { values = vs; plain = plain; is = refl })
+abbrev pub HaveRow : TypeTrees → Type 0
+HaveRow ts = (vs : List RawTree) × ArePlainOf ts vs
+
+some-row : (os : List SortOptions) (ts : TypeTrees) → HaveRow ts → Some (AreColumnKeys os ts)
+some-row os ts h = (values_key os h.0, record { values = h.0; plain = h.1; is = refl })
+
+later-row : (t : TypeTree) (ts : TypeTrees) → HaveRow (type_then t ts) → HaveRow ts
+later-row t ts h = go h.0 h.1
   where
-    values : (ts : TypeTrees) → AllHaveValues ts → (vs : List RawTree) × ArePlainOf ts vs
-    values no_types h = ([], tt)
-    values (type_then t ts) h =
-        let (v, plain) = some_value t h.0 in
-        let (vs, all) = values ts h.1 in
-        (v ∷ vs, (plain, all))
+    go : (vs : List RawTree) → ArePlainOf (type_then t ts) vs → HaveRow ts
+    go [] plain = absurd plain
+    go (v ∷ vs) plain = (vs, plain.1)
 
-begin-column : (o : SortOptions) (os : List SortOptions) (t : TypeTree) (ts : TypeTrees) (old : List ℕ) → Begin (AllHaveValues (type_then t ts)) (IsColumnKey o t) (AreColumnKeys (o ∷ os) (type_then t ts)) old
-begin-column o os t ts old = record {
+pub fields-row : (ts : TypeTrees) → HavePlain (FieldsValid ts) → HaveRow ts
+fields-row ts h = go ts h.0 h.1
+  where
+    go : (ts : TypeTrees) (vs : RawTrees) → ArePlain (FieldsValid ts) vs → HaveRow ts
+    go no_types vs plain = ([], tt)
+    go (type_then t ts) no_raws plain = absurd plain.kind
+    go (type_then t ts) (raw_then v vs) plain =
+        let rest = go ts vs (record { kind = plain.kind.1; held = plain.held.1; untyped = plain.untyped.1 }) in
+        (v ∷ rest.0, (record { kind = plain.kind.0; held = plain.held.0; untyped = plain.untyped.0 }, rest.1))
+
+row-fields : (ts : TypeTrees) (vs : List RawTree) → ArePlainOf ts vs → HavePlain (FieldsValid ts)
+row-fields no_types [] plain = (no_raws, record { kind = tt; held = tt; untyped = tt })
+row-fields no_types (v ∷ vs) plain = absurd plain
+row-fields (type_then t ts) [] plain = absurd plain
+row-fields (type_then t ts) (v ∷ vs) plain =
+    let rest = row-fields ts vs plain.1 in
+    (raw_then v rest.0, record { kind = (plain.0.kind, rest.1.kind); held = (plain.0.held, rest.1.held); untyped = (plain.0.untyped, rest.1.untyped) })
+
+begin-column : (has : Type 0) (o : SortOptions) (os : List SortOptions) (t : TypeTree) (ts : TypeTrees) (old : List ℕ) → (has → HaveRow ts) → Begin has (IsColumnKey o t) (AreColumnKeys (o ∷ os) (type_then t ts)) old
+begin-column has o os t ts old some = record {
   extend = λ q h a.
-      let (more, others) = some-row os ts a.1 in
+      let (more, others) = some-row os ts (some a) in
       (more, record { values = h.value ∷ others.values; plain = (h.plain, others.plain); is = ap₂ (λ xs ys. xs ++ ys) h.is others.is });
   front = λ s zs rest h alike e. column-front o os t ts h.values zs rest h.plain (e ∙ ap (λ xs. xs ++ rest) h.is);
 }
@@ -78,14 +98,14 @@ pub record ColumnsSoFar (os : List SortOptions) (ts : TypeTrees) (xs : List Scal
   pub split : bytes ≡ front ++ drop taken bytes
   pub count : taken ≡ length front
   pub go : ContinueWith front (AreColumnKeys os ts) (AreColumnKeys more types)
-  pub has : AllHaveValues ts → AllHaveValues types
+  pub has : AreKeyed ts → AreKeyed types × HaveRow types
   pub read : (ys : List Scalar) → AreScalars types ys → AreScalars ts (xs ++ ys) × (front ++ scalars_key more ys ≡ scalars_key os (xs ++ ys))
 
-pub columns-none : (os : List SortOptions) (ts : TypeTrees) (bytes : List ℕ) → ColumnsSoFar os ts [] bytes os ts 0
-columns-none os ts bytes = record { front = []; split = refl; count = refl; go = continue-itself (AreColumnKeys os ts); has = λ h. h; read = λ ys h. (h, refl) }
+pub columns-none : (os : List SortOptions) (ts : TypeTrees) (bytes : List ℕ) → (AreKeyed ts → HavePlain (FieldsValid ts)) → ColumnsSoFar os ts [] bytes os ts 0
+columns-none os ts bytes some = record { front = []; split = refl; count = refl; go = continue-itself (AreColumnKeys os ts); has = λ h. (h, fields-row ts (some h)); read = λ ys h. (h, refl) }
 
-pub columns-start : (os : List SortOptions) (ts : TypeTrees) (xs : List Scalar) (bytes : List ℕ) → xs ≡ [] → ColumnsSoFar os ts xs bytes os ts 0
-columns-start os ts xs bytes e = subst (λ ys. ColumnsSoFar os ts ys bytes os ts 0) (sym e) (columns-none os ts bytes)
+pub columns-start : (os : List SortOptions) (ts : TypeTrees) (xs : List Scalar) (bytes : List ℕ) → (AreKeyed ts → HavePlain (FieldsValid ts)) → xs ≡ [] → ColumnsSoFar os ts xs bytes os ts 0
+columns-start os ts xs bytes some e = subst (λ ys. ColumnsSoFar os ts ys bytes os ts 0) (sym e) (columns-none os ts bytes some)
 
 pub same-option : (i : ℕ) (os : List SortOptions) (d : SortOptions) → i < length os → get_or os i d ≡ get_or os i (get_or os i d)
 same-option i [] d h = absurd (omega arith)
@@ -111,7 +131,7 @@ columns-step os ts xs ys x bytes o more t types taken n so typed h e =
       split = so.split ∙ ap (λ bs. so.front ++ bs) (h.is ∙ ap (λ bs. k ++ bs) (drop-more taken n bytes)) ∙ sym (append_assoc so.front k (drop (taken + n) bytes));
       count = let c = so.count in let d = h.count in let l = length-append so.front k in omega arith;
       go = continue-then so.front k (AreColumnKeys os ts) (AreColumnKeys (o ∷ more) (type_then t types)) (AreColumnKeys more types) so.go (continue-column o more t types (scalar_raw x) h.plain);
-      has = λ a. (so.has a).1;
+      has = λ a. let (keyed, row) = so.has a in (((keyed.0.1, keyed.1.1), later-row t types row));
       read = λ zs all.
           let r = so.read (x ∷ zs) ((typed, h.plain), all) in
           let same : xs ++ x ∷ zs ≡ ys ++ zs = sym (append_assoc xs (x ∷ []) zs) ∙ ap (λ ws. ws ++ zs) (sym e) in
@@ -137,17 +157,20 @@ columns-more os ts i xs ys x bytes o t taken next less in_options type_is option
     (columns-step os (dtype_trees ts) xs ys x bytes o (drop (i + 1) os) (type_of t) (dtype_trees (drop (i + 1) ts)) taken h.width there h.typed h.column e)
 
 column-stops : (os : List SortOptions) (ts : TypeTrees) (xs : List Scalar) (bytes : List ℕ) (o : SortOptions) (more : List SortOptions) (t : TypeTree) (types : TypeTrees) (taken : ℕ) (now : List ℕ)
-    → ColumnsSoFar os ts xs bytes (o ∷ more) (type_then t types) taken → IsStuck (HasValues t) (IsColumnKey o t) (drop taken bytes) now → IsStuck (AllHaveValues ts) (AreColumnKeys os ts) bytes now
+    → ColumnsSoFar os ts xs bytes (o ∷ more) (type_then t types) taken → IsStuck (IsKeyed t) (IsColumnKey o t) (drop taken bytes) now → IsStuck (AreKeyed ts) (AreColumnKeys os ts) bytes now
 column-stops os ts xs bytes o more t types taken now so stuck =
-    stuck-same (AllHaveValues ts) (AllHaveValues ts) (AreColumnKeys os ts) (AreColumnKeys os ts) bytes now (λ a. a) (λ s h. h) (λ s h. h)
-    (stuck-later (AllHaveValues ts) so.front (AreColumnKeys os ts) (AreColumnKeys (o ∷ more) (type_then t types)) bytes (drop taken bytes) now so.go so.split (λ a. some-row (o ∷ more) (type_then t types) (so.has a))
-    (stuck-same (AllHaveValues ts) (AllHaveValues (type_then t types)) (AreColumnKeys (o ∷ more) (type_then t types)) (AreColumnKeys (o ∷ more) (type_then t types)) (drop taken bytes) now so.has (λ s h. h) (λ s h. h)
-    (stuck-within (AllHaveValues (type_then t types)) (HasValues t) (IsColumnKey o t) (AreColumnKeys (o ∷ more) (type_then t types)) (drop taken bytes) now (λ a. a.0) (begin-column o more t types (drop taken bytes)) stuck)))
+    stuck-later (AreKeyed ts) so.front (AreColumnKeys os ts) (AreColumnKeys (o ∷ more) (type_then t types)) bytes (drop taken bytes) now so.go so.split (λ a. some-row (o ∷ more) (type_then t types) (so.has a).1)
+    (stuck-within (AreKeyed ts) (IsKeyed t) (IsColumnKey o t) (AreColumnKeys (o ∷ more) (type_then t types)) (drop taken bytes) now (λ a. let keyed = (so.has a).0 in (keyed.0.0, keyed.1.0))
+    (begin-column (AreKeyed ts) o more t types (drop taken bytes) (λ a. later-row t types (so.has a).1)) stuck)
+
+-- no row can be
+pub no-row : (os : List SortOptions) (ts : TypeTrees) (bytes : List ℕ) (e : RowError) → (e ≡ BadKey 0) × ¬ (HavePlain (FieldsValid ts)) → IsRefusal (AreKeyed ts) (AreColumnKeys os ts) bytes e
+no-row os ts bytes e h = inr (0, h.0, omega arith, stuck-here (AreKeyed ts) (AreColumnKeys os ts) bytes (λ s zs rest k alike f. h.1 (row-fields ts k.values k.plain)))
 
 -- a column is refused, at an offset that counts from the row's first byte
 pub columns-refused : (os : List SortOptions) (ts : List DType) (i : ℕ) (xs : List Scalar) (bytes : List ℕ) (o : SortOptions) (t : DType) (taken : ℕ) (e : RowError) → i < length ts → i < length os → t ≡ get_or ts i t → o ≡ get_or os i o
-    → ColumnsSoFar os (dtype_trees ts) xs bytes (drop i os) (dtype_trees (drop i ts)) taken → IsRefusalAt (HasValues (type_of t)) (IsColumnKey o (type_of t)) bytes taken e
-    → IsRefusal (AllHaveValues (dtype_trees ts)) (AreColumnKeys os (dtype_trees ts)) bytes e
+    → ColumnsSoFar os (dtype_trees ts) xs bytes (drop i os) (dtype_trees (drop i ts)) taken → IsRefusalAt (IsKeyed (type_of t)) (IsColumnKey o (type_of t)) bytes taken e
+    → IsRefusal (AreKeyed (dtype_trees ts)) (AreColumnKeys os (dtype_trees ts)) bytes e
 columns-refused os ts i xs bytes o t taken e less in_options type_is option_is so (inl out) = inl out
 columns-refused os ts i xs bytes o t taken e less in_options type_is option_is so (inr (place, is, within, stuck)) =
     let there = at-column os ts i xs bytes o t taken less in_options type_is option_is so in
@@ -155,7 +178,7 @@ columns-refused os ts i xs bytes o t taken e less in_options type_is option_is s
     let long = ap length there.split in
     let parts = length-append there.front (drop taken bytes) in
     let count = there.count in
-    inr (taken + place, is, omega arith, subst (IsStuck (AllHaveValues (dtype_trees ts)) (AreColumnKeys os (dtype_trees ts)) bytes) (drop-more taken place bytes) stop)
+    inr (taken + place, is, omega arith, subst (IsStuck (AreKeyed (dtype_trees ts)) (AreColumnKeys os (dtype_trees ts)) bytes) (drop-more taken place bytes) stop)
 
 pub columns-within : (os : List SortOptions) (ts : TypeTrees) (xs : List Scalar) (bytes : List ℕ) (more : List SortOptions) (types : TypeTrees) (taken : ℕ) → ColumnsSoFar os ts xs bytes more types taken → taken ≤ length bytes
 columns-within os ts xs bytes more types taken so =
@@ -235,13 +258,13 @@ rows-alike os ts n = (
   λ s h. record { values = h.values; begins = record { values = held-values ts h.values h.plain; is = h.is ∙ sym (append-nil (values_key os h.values)) } },
 )
 
-pub row-bad : (os : List SortOptions) (ts : TypeTrees) (bytes : List ℕ) (e : RowError) → HaveNoVariant ts → HaveByteIds ts → IsRefusal (AllHaveValues ts) (AreColumnKeys os ts) bytes e → (place : ℕ) → e ≡ BadKey place
-    → IsFirstBad (IsRowKeyOf os ts) (AllHaveVariants ts) bytes place
+pub row-bad : (os : List SortOptions) (ts : TypeTrees) (bytes : List ℕ) (e : RowError) → HaveNoVariant ts → HaveByteIds ts → IsRefusal (AreKeyed ts) (AreColumnKeys os ts) bytes e → (place : ℕ) → e ≡ BadKey place
+    → IsFirstBad (IsRowKeyOf os ts) bytes place
 row-bad os ts bytes e none ids (inl out) place is = absurd (cc)
 row-bad os ts bytes e none ids (inr (at, is, within, stuck)) place is_at =
     let same : at ≡ place = cc in
-    subst (IsFirstBad (IsRowKeyOf os ts) (AllHaveVariants ts) bytes) same
-    (first-bad (IsRowKeyOf os ts) (AreColumnKeys os ts) (AllHaveVariants ts) (AllHaveValues ts) bytes at (rows-alike os ts none) (λ u. have-values ts none ids u) (some-row os ts) within stuck)
+    subst (IsFirstBad (IsRowKeyOf os ts) bytes) same
+    (first-bad (IsRowKeyOf os ts) (AreColumnKeys os ts) (AreKeyed ts) bytes at (rows-alike os ts none) (none, ids) within stuck)
 
 -- as many options as types
 abbrev length-is : List SortOptions → TypeTrees → Type 0
@@ -298,20 +321,20 @@ row-decoded os ts xs bytes n h =
     types-of no_types (x ∷ xs) h = absurd h
     types-of (type_then t ts) [] h = absurd h
 
-pub row-refused : (os : List SortOptions) (ts : TypeTrees) (bytes : List ℕ) (r : Result (Vec Scalar Global × ℕ) RowError) (e : RowError) → IsErr r × IsErrAnd r (λ f. f ≡ e) → IsRefusal (AllHaveValues ts) (AreColumnKeys os ts) bytes e
-    → MatchResult r (λ p. HasRow os ts p.0.items bytes p.1) (λ f. IsRefusal (AllHaveValues ts) (AreColumnKeys os ts) bytes f)
+pub row-refused : (os : List SortOptions) (ts : TypeTrees) (bytes : List ℕ) (r : Result (Vec Scalar Global × ℕ) RowError) (e : RowError) → IsErr r × IsErrAnd r (λ f. f ≡ e) → IsRefusal (AreKeyed ts) (AreColumnKeys os ts) bytes e
+    → MatchResult r (λ p. HasRow os ts p.0.items bytes p.1) (λ f. IsRefusal (AreKeyed ts) (AreColumnKeys os ts) bytes f)
 row-refused os ts bytes (Ok p) e h k = absurd (true≢false (sym h.0))
-row-refused os ts bytes (Err f) e h k = subst (IsRefusal (AllHaveValues ts) (AreColumnKeys os ts) bytes) (sym h.1) k
+row-refused os ts bytes (Err f) e h k = subst (IsRefusal (AreKeyed ts) (AreColumnKeys os ts) bytes) (sym h.1) k
 
 pub rows-whole : (os : List SortOptions) (ts : List DType) (bytes : List ℕ) (r : Result (Vec Scalar Global × ℕ) RowError) → OneValue
-    → MatchResult r (λ p. HasRow os (dtype_trees ts) p.0.items bytes p.1) (λ e. IsRefusal (AllHaveValues (dtype_trees ts)) (AreColumnKeys os (dtype_trees ts)) bytes e)
+    → MatchResult r (λ p. HasRow os (dtype_trees ts) p.0.items bytes p.1) (λ e. IsRefusal (AreKeyed (dtype_trees ts)) (AreColumnKeys os (dtype_trees ts)) bytes e)
     → (vs : List RawTree) (rest : List ℕ) → length ts ≡ length os → HaveNoVariant (dtype_trees ts) → BeginsWithRow os (dtype_trees ts) bytes vs rest → DecodesRowTo os (dtype_trees ts) vs r
 rows-whole os ts bytes (Ok p) one h vs rest same none begins = row-whole os ts p.0.items bytes p.1 one none same h vs rest begins
-rows-whole os ts bytes (Err e) one h vs rest same none begins = row-whole_bad (AllHaveValues (dtype_trees ts)) os (dtype_trees ts) bytes e none h vs rest begins
+rows-whole os ts bytes (Err e) one h vs rest same none begins = row-whole_bad (AreKeyed (dtype_trees ts)) os (dtype_trees ts) bytes e none h vs rest begins
 
 pub rows-bad : (os : List SortOptions) (ts : List DType) (bytes : List ℕ) (r : Result (Vec Scalar Global × ℕ) RowError) → HaveNoVariant (dtype_trees ts) → HaveByteIds (dtype_trees ts)
-    → MatchResult r (λ p. HasRow os (dtype_trees ts) p.0.items bytes p.1) (λ e. IsRefusal (AllHaveValues (dtype_trees ts)) (AreColumnKeys os (dtype_trees ts)) bytes e) → (place : ℕ) → r ≡ Err (BadKey place)
-    → IsFirstBad (IsRowKeyOf os (dtype_trees ts)) (AllHaveVariants (dtype_trees ts)) bytes place
+    → MatchResult r (λ p. HasRow os (dtype_trees ts) p.0.items bytes p.1) (λ e. IsRefusal (AreKeyed (dtype_trees ts)) (AreColumnKeys os (dtype_trees ts)) bytes e) → (place : ℕ) → r ≡ Err (BadKey place)
+    → IsFirstBad (IsRowKeyOf os (dtype_trees ts)) bytes place
 rows-bad os ts bytes (Ok p) none ids h place e = absurd (cc)
 rows-bad os ts bytes (Err e) none ids h place is = let same : e ≡ BadKey place = cc in row-bad os (dtype_trees ts) bytes e none ids h place same
 

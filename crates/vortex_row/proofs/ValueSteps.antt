@@ -23,11 +23,11 @@ use Rattle.vortex_value.specs.declared.unions.UnionValue.{UnionValue}
 use Rattle.vortex_value.specs.Values.RawTree.{RawTree, absent, raw_union, raw_variant, RawTrees, no_raws, raw_then}
 use Rattle.vortex_value.proofs.ValueSteps.{value_tree-Tuple, value_tree-Union}
 use Rattle.vortex_row.specs.Keys.{key}
-use Rattle.vortex_row.specs.Reading.{AllHaveValues, AreKeys, AreSized, HasRead, HasValues, IsChild, IsKey, IsPlain, IsPresent, IsStuck, Puts, Reads, entry_type}
+use Rattle.vortex_row.specs.Reading.{AllHaveValues, ArePlain, AreKeys, AreSized, HasOne, HasPlain, HasRead, HasValues, HavePlain, IfDense, IsChild, IsKey, IsPlain, IsPresent, IsStuck, Puts, Reads, entry_type}
 use Rattle.vortex_row.specs.declared.reader.KeyDecodeError.{KeyDecodeError}
 use Rattle.vortex_row.specs.declared.reader.KeyDecodeError.TheVariants.{Bad, NoMemory}
 use Rattle.vortex_row.proofs.OrderLaws.{begins}
-use Rattle.vortex_row.proofs.PartSteps.{Opens, SameValues, SoFar, Takes, TupleOf, continue-child, null-read, opens-none, opens-stuck, present-read, present-stuck, reads-as, refused, so-far-end, so-far-more, so-far-none, so-far-open, so-far-stuck, some-key, some-keys, some_sized, some_value, some_values, stuck-as, tagged-opens, takes-field, tuple-opens, tuple-read}
+use Rattle.vortex_row.proofs.PartSteps.{Opens, SameValues, SoFar, Takes, TupleOf, continue-child, null-read, opens-none, opens-stuck, present-read, present-stuck, reads-as, refused, so-far-end, so-far-more, so-far-none, so-far-open, so-far-stuck, some-key, some-keys, some_sized, some_value, stuck-as, tagged-opens, takes-field, tuple-opens, tuple-parts, tuple-read}
 use Rattle.vortex_row.proofs.StuckLaws.{Some, stuck-here, stuck-later, stuck-same}
 use Rattle.vortex_cells.proofs.VariantSteps.{type_size_item}
 use Rattle.vortex_row.proofs.ReaderSteps.{none-left}
@@ -47,7 +47,7 @@ bare (struct_type names ts n) = struct_type [] ts NonNullable
 bare (union_type names ts ids n) = union_type [] ts ids NonNullable
 bare t = t
 
-to_bare : (t : TypeTree) (v : RawTree) → IsPresent t v → IsPresent (bare t) v
+pub to_bare : (t : TypeTree) (v : RawTree) → IsPresent t v → IsPresent (bare t) v
 to_bare t absent h = let p = h.present in absurd (cc)
 to_bare (bool_type n) v h = record { valid = h.valid; present = refl }
 to_bare (integer_type k n) v h = record { valid = h.valid; present = refl }
@@ -62,7 +62,7 @@ to_bare null_type v h = h
 to_bare (variant_type n) v h = h
 to_bare (extension_type id metadata t) v h = h
 
-from_bare : (t : TypeTree) (v : RawTree) → IsPresent (bare t) v → IsPresent t v
+pub from_bare : (t : TypeTree) (v : RawTree) → IsPresent (bare t) v → IsPresent t v
 from_bare t absent h = let p = h.present in absurd (cc)
 from_bare (bool_type n) v h = record { valid = h.valid; present = refl }
 from_bare (integer_type k n) v h = record { valid = h.valid; present = refl }
@@ -94,21 +94,25 @@ has_bare (variant_type n) h = h
 has_bare (extension_type id metadata t) h = h
 
 -- one kind of type
-pub arm : {A : Type 0} (any : Type 0) (d t : TypeTree) (view : A → RawTree) (r : Result A KeyDecodeError) (old now : List ℕ) → d ≡ t → (HasValues t → any) → Reads any (IsPresent (bare t)) view r old now
-    → Reads (HasValues d) (IsPresent d) view r old now
-arm any d t view r old now e weaker h =
-    subst (λ u. Reads (HasValues u) (IsPresent u) view r old now) (sym e)
-    (reads-as (HasValues t) any (bare t) t view r old now (record { to = from_bare t; from = to_bare t }) weaker h)
+pub arm : {A : Type 0} (Has : TypeTree → Type 0) (any : Type 0) (d t : TypeTree) (view : A → RawTree) (r : Result A KeyDecodeError) (old now : List ℕ) → d ≡ t → (Has t → any) → Reads any (IsPresent (bare t)) view r old now
+    → Reads (Has d) (IsPresent d) view r old now
+arm Has any d t view r old now e weaker h =
+    subst (λ u. Reads (Has u) (IsPresent u) view r old now) (sym e)
+    (reads-as (Has t) any (bare t) t view r old now (record { to = from_bare t; from = to_bare t }) weaker h)
 
-pub union-arm : {A : Type 0} (d : TypeTree) (names : List (List ℕ)) (ts : TypeTrees) (ids : List ℕ) (n : Nullability) (view : A → RawTree) (r : Result A KeyDecodeError) (old now : List ℕ) → d ≡ union_type names ts ids n
-    → Reads (HasValues (union_type [] ts ids NonNullable)) (IsPresent (union_type [] ts ids NonNullable)) view r old now → Reads (HasValues d) (IsPresent d) view r old now
-union-arm d names ts ids n view r old now e h = arm (HasValues (union_type [] ts ids NonNullable)) d (union_type names ts ids n) view r old now e (has_bare (union_type names ts ids n)) h
+abbrev Dense : Bool → TypeTree → Type 0
+Dense sparse t = IfDense sparse (HasValues t)
 
-pub extension-arm : {A : Type 0} (d t : TypeTree) (id metadata : List ℕ) (view : A → RawTree) (r : Result A KeyDecodeError) (old now : List ℕ) → d ≡ extension_type id metadata t
-    → Reads (HasValues t) (IsPresent t) view r old now → Reads (HasValues d) (IsPresent d) view r old now
-extension-arm d t id metadata view r old now e h =
-    subst (λ u. Reads (HasValues u) (IsPresent u) view r old now) (sym e)
-    (reads-as (HasValues t) (HasValues t) t (extension_type id metadata t) view r old now
+pub union-arm : {A : Type 0} (sparse : Bool) (d : TypeTree) (names : List (List ℕ)) (ts : TypeTrees) (ids : List ℕ) (n : Nullability) (view : A → RawTree) (r : Result A KeyDecodeError) (old now : List ℕ) → d ≡ union_type names ts ids n
+    → Reads (IfDense sparse (HasValues (union_type [] ts ids NonNullable))) (IsPresent (union_type [] ts ids NonNullable)) view r old now → Reads (IfDense sparse (HasValues d)) (IsPresent d) view r old now
+union-arm sparse d names ts ids n view r old now e h =
+    arm (Dense sparse) (Dense sparse (union_type [] ts ids NonNullable)) d (union_type names ts ids n) view r old now e (λ f g. has_bare (union_type names ts ids n) (f g)) h
+
+pub extension-arm : {A : Type 0} (sparse : Bool) (d t : TypeTree) (id metadata : List ℕ) (view : A → RawTree) (r : Result A KeyDecodeError) (old now : List ℕ) → d ≡ extension_type id metadata t
+    → Reads (IfDense sparse (HasValues t)) (IsPresent t) view r old now → Reads (IfDense sparse (HasValues d)) (IsPresent d) view r old now
+extension-arm sparse d t id metadata view r old now e h =
+    subst (λ u. Reads (Dense sparse u) (IsPresent u) view r old now) (sym e)
+    (reads-as (Dense sparse t) (Dense sparse t) t (extension_type id metadata t) view r old now
     (record { to = λ v p. record { valid = p.valid; present = p.present }; from = λ v p. record { valid = p.valid; present = p.present } }) (λ a. a) h)
 
 -- a type whose present values have no keys
@@ -116,24 +120,28 @@ extension-arm d t id metadata view r old now e h =
 never_there : (has : Type 0) (t : TypeTree) (old : List ℕ) → ((v : RawTree) → ¬ (IsPlain (IsPresent t) v)) → IsStuck has (IsKey (IsPresent t)) old old
 never_there has t old never = stuck-here has (IsKey (IsPresent t)) old (λ s zs rest h alike e. never h.value h.plain)
 
-no_null_value : (v : RawTree) → ¬ (IsPlain (IsPresent null_type) v)
+pub no_null_value : (v : RawTree) → ¬ (IsPlain (IsPresent null_type) v)
 no_null_value absent h = let p = h.kind.present in cc
 no_null_value _ h = h.kind.valid
 
-no_variant_value : (n : Nullability) (v : RawTree) → ¬ (IsPlain (IsPresent (variant_type n)) v)
+pub no_variant_value : (n : Nullability) (v : RawTree) → ¬ (IsPlain (IsPresent (variant_type n)) v)
 no_variant_value n absent h = let p = h.kind.present in cc
 no_variant_value n (raw_variant t v) h = h.untyped
 no_variant_value n _ h = h.kind.valid
 
-pub null-refused : (d : TypeTree) (old : List ℕ) → d ≡ null_type → IsStuck (HasValues d) (IsKey (IsPresent d)) old old
-null-refused d old e = subst (λ t. IsStuck (HasValues t) (IsKey (IsPresent t)) old old) (sym e) (never_there (HasValues null_type) null_type old no_null_value)
+-- nor then do the bytes go on after none
+pub never-key : (has : Type 0) (t : TypeTree) (old : List ℕ) → ¬ (HasPlain (IsPresent t)) → IsStuck has (IsKey (IsPresent t)) old old
+never-key has t old never = never_there has t old (λ v p. never (v, p))
 
-pub variant-refused : (d : TypeTree) (n : Nullability) (old : List ℕ) → d ≡ variant_type n → IsStuck (HasValues d) (IsKey (IsPresent d)) old old
-variant-refused d n old e = subst (λ t. IsStuck (HasValues t) (IsKey (IsPresent t)) old old) (sym e) (never_there (HasValues (variant_type n)) (variant_type n) old (no_variant_value n))
+null-refused : (has : Type 0) (d : TypeTree) (old : List ℕ) → d ≡ null_type → IsStuck has (IsKey (IsPresent d)) old old
+null-refused has d old e = subst (λ t. IsStuck has (IsKey (IsPresent t)) old old) (sym e) (never_there has null_type old no_null_value)
 
-pub valueless : (d : DType) (old : List ℕ) → (d ≡ Null) ⊎ ((n : Nullability) × (d ≡ Variant n)) → IsStuck (HasValues (type_of d)) (IsKey (IsPresent (type_of d))) old old
-valueless d old (inl h) = null-refused (type_of d) old (ap type_of h ∙ type_of-Null)
-valueless d old (inr h) = variant-refused (type_of d) h.0 old (ap type_of h.1 ∙ type_of-Variant h.0)
+variant-refused : (has : Type 0) (d : TypeTree) (n : Nullability) (old : List ℕ) → d ≡ variant_type n → IsStuck has (IsKey (IsPresent d)) old old
+variant-refused has d n old e = subst (λ t. IsStuck has (IsKey (IsPresent t)) old old) (sym e) (never_there has (variant_type n) old (no_variant_value n))
+
+pub valueless : (has : Type 0) (d : DType) (old : List ℕ) → (d ≡ Null) ⊎ ((n : Nullability) × (d ≡ Variant n)) → IsStuck has (IsKey (IsPresent (type_of d))) old old
+valueless has d old (inl h) = null-refused has (type_of d) old (ap type_of h ∙ type_of-Null)
+valueless has d old (inr h) = variant-refused has (type_of d) h.0 old (ap type_of h.1 ∙ type_of-Variant h.0)
 
 -- the trees of types with parts
 
@@ -212,21 +220,45 @@ end-missing has t All Rest vs old mid here same of e so again all none never oth
 pub head-missing : (has : Type 0) (t : TypeTree) (All : RawTrees → Type 0) (old now : List ℕ) → TupleOf t All → now ≡ old → ((bs : List ℕ) → old ≢ 23 ∷ bs) → IsStuck has (IsKey (IsPresent t)) old now
 head-missing has t All old now of same other = opens-none has t 23 (AreKeys All) old now (tuple-opens t All of) same other
 
+-- nor are there such parts
+pub no-tuple : (has : Type 0) (t : TypeTree) (All : RawTrees → Type 0) (old : List ℕ) → TupleOf t All → ¬ (HavePlain All) → IsStuck has (IsKey (IsPresent t)) old old
+no-tuple has t All old of never = never-key has t old (λ h. never (tuple-parts t All of h))
+
+pub no-tagged : (has : Type 0) (ids : List ℕ) (ts : TypeTrees) (old : List ℕ) → ¬ (HasOne (IsChild ids ts)) → IsStuck has (IsKey (IsPresent (union_type [] ts ids NonNullable))) old old
+no-tagged has ids ts old never =
+    never-key has (union_type [] ts ids NonNullable) old (λ h. let (q, child, is) = (tagged-opens ids ts).split h.0 h.1 in never (q, child))
+
 -- the parts of each kind of type that are still to come
 
-pub some-sized_keys : (n : ℕ) (e : TypeTree) → HasValues e → Some (AreKeys (AreSized n e))
-some-sized_keys n e h = let (v, plain) = some_value e h in some-keys (AreSized n e) (some_sized n e v plain)
+-- fewer values, if there are so many
+pub fewer : (n m : ℕ) (e : TypeTree) → m ≤ n → HavePlain (AreSized n e) → Some (AreKeys (AreSized m e))
+fewer n m e less h = go m less h.0 h.1
+  where
+    go : (m : ℕ) → m ≤ n → (vs : RawTrees) → ArePlain (AreSized n e) vs → Some (AreKeys (AreSized m e))
+    go zero less vs plain = some-keys (AreSized 0 e) (no_raws, record { kind = record { count = refl; valid = tt }; held = tt; untyped = tt })
+    go (suc m) less no_raws plain = let c = plain.kind.count in absurd (omega arith)
+    go (suc m) less (raw_then v vs) plain = some-keys (AreSized (suc m) e) (some_sized (suc m) e v (record { kind = plain.kind.valid.0; held = plain.held.0; untyped = plain.untyped.0 }))
 
-pub some-fields : (ts : TypeTrees) → AllHaveValues ts → Some (AreKeys (FieldsValid ts))
-some-fields ts h = some-keys (FieldsValid ts) (some_values ts h)
+-- the fields after the first, if there are all
+pub later-fields : (t : TypeTree) (ts : TypeTrees) → HavePlain (FieldsValid (type_then t ts)) → HavePlain (FieldsValid ts)
+later-fields t ts h = go h.0 h.1
+  where
+    go : (vs : RawTrees) → ArePlain (FieldsValid (type_then t ts)) vs → HavePlain (FieldsValid ts)
+    go no_raws plain = absurd plain.kind
+    go (raw_then v vs) plain = (vs, record { kind = plain.kind.1; held = plain.held.1; untyped = plain.untyped.1 })
+
+pub fields-from : (i : ℕ) (ts : List DType) → HavePlain (FieldsValid (dtype_trees ts)) → HavePlain (FieldsValid (dtype_trees (drop i ts)))
+fields-from zero ts h = h
+fields-from (suc i) [] h = h
+fields-from (suc i) (t ∷ ts) h = fields-from i ts (later-fields (type_of t) (dtype_trees ts) h)
+
+pub rest-fields : (i : ℕ) (ts : List DType) → HavePlain (FieldsValid (dtype_trees ts)) → Some (AreKeys (FieldsValid (dtype_trees (drop i ts))))
+rest-fields i ts h = some-keys (FieldsValid (dtype_trees (drop i ts))) (fields-from i ts h)
 
 all-drop : (i : ℕ) (ts : List DType) → AllHaveValues (dtype_trees ts) → AllHaveValues (dtype_trees (drop i ts))
 all-drop zero ts h = h
 all-drop (suc i) [] h = h
 all-drop (suc i) (t ∷ ts) h = all-drop i ts h.1
-
-pub some-rest : (i : ℕ) (ts : List DType) → AllHaveValues (dtype_trees ts) → Some (AreKeys (FieldsValid (dtype_trees (drop i ts))))
-some-rest i ts h = some-fields (dtype_trees (drop i ts)) (all-drop i ts h)
 
 pub has-field : (i : ℕ) (ts : List DType) (t : DType) → i < length ts → t ≡ get_or ts i t → AllHaveValues (dtype_trees ts) → HasValues (type_of t)
 has-field i ts t less is h =
@@ -285,7 +317,7 @@ union-has id (i ∷ is) (type_then u us) t h e = child-has id (i ∷ is) (type_t
 union-has id [] ts t h e = cc
 union-has id (i ∷ is) no_types t h e = cc
 
-some-child : (ids : List ℕ) (ts : TypeTrees) → HasValues (union_type [] ts ids NonNullable) → Some (IsChild ids ts)
+pub some-child : (ids : List ℕ) (ts : TypeTrees) → HasValues (union_type [] ts ids NonNullable) → Some (IsChild ids ts)
 some-child ids ts h = let (v, plain) = some_value (union_type [] ts ids NonNullable) h in child_in v plain
   where
     child_in : (v : RawTree) → IsPlain (Valid (union_type [] ts ids NonNullable)) v → Some (IsChild ids ts)
@@ -297,19 +329,21 @@ some-child ids ts h = let (v, plain) = some_value (union_type [] ts ids NonNulla
 pub union-none : (has : Type 0) (ids : List ℕ) (ts : TypeTrees) (old now : List ℕ) → now ≡ old → ((bs : List ℕ) → old ≢ 24 ∷ bs) → IsStuck has (IsKey (IsPresent (union_type [] ts ids NonNullable))) old now
 union-none has ids ts old now same other = opens-none has (union_type [] ts ids NonNullable) 24 (IsChild ids ts) old now (tagged-opens ids ts) same other
 
-pub id-stuck : (ids : List ℕ) (ts : TypeTrees) (old mid now : List ℕ) → old ≡ 24 ∷ mid → IsStuck (Unit {0}) (IsChild ids ts) mid now
-    → IsStuck (HasValues (union_type [] ts ids NonNullable)) (IsKey (IsPresent (union_type [] ts ids NonNullable))) old now
-id-stuck ids ts old mid now e stuck =
-    opens-stuck (HasValues (union_type [] ts ids NonNullable)) (union_type [] ts ids NonNullable) 24 (IsChild ids ts) old mid now (tagged-opens ids ts) e (some-child ids ts)
-    (stuck-same (HasValues (union_type [] ts ids NonNullable)) (Unit {0}) (IsChild ids ts) (IsChild ids ts) mid now (λ a. tt) (λ s h. h) (λ s h. h) stuck)
+pub id-stuck : (has : Type 0) (ids : List ℕ) (ts : TypeTrees) (old mid now : List ℕ) → old ≡ 24 ∷ mid → (has → Some (IsChild ids ts)) → IsStuck (Unit {0}) (IsChild ids ts) mid now
+    → IsStuck has (IsKey (IsPresent (union_type [] ts ids NonNullable))) old now
+id-stuck has ids ts old mid now e some stuck =
+    opens-stuck has (union_type [] ts ids NonNullable) 24 (IsChild ids ts) old mid now (tagged-opens ids ts) e some
+    (stuck-same has (Unit {0}) (IsChild ids ts) (IsChild ids ts) mid now (λ a. tt) (λ s h. h) (λ s h. h) stuck)
 
-pub child-stuck : (id : ℕ) (ids : List ℕ) (ts : TypeTrees) (t : TypeTree) (old mid here now : List ℕ) → old ≡ 24 ∷ mid → mid ≡ id ∷ here → type_with id ids ts ≡ Present t → id < 256
-    → IsStuck (HasValues t) (IsKey (Valid t)) here now → IsStuck (HasValues (union_type [] ts ids NonNullable)) (IsKey (IsPresent (union_type [] ts ids NonNullable))) old now
-child-stuck id ids ts t old mid here now e f has small stuck =
-    opens-stuck (HasValues (union_type [] ts ids NonNullable)) (union_type [] ts ids NonNullable) 24 (IsChild ids ts) old mid now (tagged-opens ids ts) e (some-child ids ts)
-    (stuck-later (HasValues (union_type [] ts ids NonNullable)) (id ∷ []) (IsChild ids ts) (IsKey (Valid t)) mid here now (continue-child id ids ts t small has) f
-    (λ h. some-key (Valid t) (some_value t (union-has id ids ts t h has)))
-    (stuck-same (HasValues (union_type [] ts ids NonNullable)) (HasValues t) (IsKey (Valid t)) (IsKey (Valid t)) here now (λ h. union-has id ids ts t h has) (λ s h. h) (λ s h. h) stuck))
+pub child-stuck : (sparse : Bool) (id : ℕ) (ids : List ℕ) (ts : TypeTrees) (t : TypeTree) (old mid here now : List ℕ) → old ≡ 24 ∷ mid → mid ≡ id ∷ here → type_with id ids ts ≡ Present t → id < 256
+    → (IfDense sparse (HasValues (union_type [] ts ids NonNullable)) → Some (IsChild ids ts)) → (IfDense sparse (HasValues t) → HasPlain (Valid t))
+    → IsStuck (IfDense sparse (HasValues t)) (IsKey (Valid t)) here now → IsStuck (IfDense sparse (HasValues (union_type [] ts ids NonNullable))) (IsKey (IsPresent (union_type [] ts ids NonNullable))) old now
+child-stuck sparse id ids ts t old mid here now e f has small some one stuck =
+    let down : Dense sparse (union_type [] ts ids NonNullable) → Dense sparse t = λ h g. union-has id ids ts t (h g) has in
+    opens-stuck (Dense sparse (union_type [] ts ids NonNullable)) (union_type [] ts ids NonNullable) 24 (IsChild ids ts) old mid now (tagged-opens ids ts) e some
+    (stuck-later (Dense sparse (union_type [] ts ids NonNullable)) (id ∷ []) (IsChild ids ts) (IsKey (Valid t)) mid here now (continue-child id ids ts t small has) f
+    (λ h. some-key (Valid t) (one (down h)))
+    (stuck-same (Dense sparse (union_type [] ts ids NonNullable)) (Dense sparse t) (IsKey (Valid t)) (IsKey (Valid t)) here now down (λ s h. h) (λ s h. h) stuck))
 
 pub child-read : (id : ℕ) (ids : List ℕ) (ts : TypeTrees) (t : TypeTree) (v : RawTree) (old mid here now : List ℕ) → old ≡ 24 ∷ mid → mid ≡ id ∷ here → type_with id ids ts ≡ Present t → id < 256
     → HasRead (Valid t) v here now → HasRead (IsPresent (union_type [] ts ids NonNullable)) (raw_union id v) old now
@@ -355,15 +389,20 @@ pub puts-present : (has : Type 0) (t : TypeTree) (r : Result Unit KeyDecodeError
 puts-present has t (Ok u) parts more old mid now same other (part, e, h) = (part, e, present-read t (raw_of part) old mid now same h)
 puts-present has t (Err f) parts more old mid now same other h = λ bad. present-stuck has t old mid now same other (h bad)
 
-pub puts-arm : (any : Type 0) (d t : TypeTree) (r : Result Unit KeyDecodeError) (parts more : List (Option ScalarValue)) (old now : List ℕ) → d ≡ t → (HasValues t → any) → Puts any (IsPresent (bare t)) r parts more old now
-    → Puts (HasValues d) (IsPresent d) r parts more old now
-puts-arm any d t r parts more old now e weaker h = subst (λ u. Puts (HasValues u) (IsPresent u) r parts more old now) (sym e) (to_type r h)
+pub puts-arm : (Has : TypeTree → Type 0) (any : Type 0) (d t : TypeTree) (r : Result Unit KeyDecodeError) (parts more : List (Option ScalarValue)) (old now : List ℕ) → d ≡ t → (Has t → any) → Puts any (IsPresent (bare t)) r parts more old now
+    → Puts (Has d) (IsPresent d) r parts more old now
+puts-arm Has any d t r parts more old now e weaker h = subst (λ u. Puts (Has u) (IsPresent u) r parts more old now) (sym e) (to_type r h)
   where
     same : SameValues (bare t) t
     same = record { to = from_bare t; from = to_bare t }
 
-    to_type : (r : Result Unit KeyDecodeError) → Puts any (IsPresent (bare t)) r parts more old now → Puts (HasValues t) (IsPresent t) r parts more old now
+    to_type : (r : Result Unit KeyDecodeError) → Puts any (IsPresent (bare t)) r parts more old now → Puts (Has t) (IsPresent t) r parts more old now
     to_type (Ok u) (part, e, h) = (part, e, record { plain = record { kind = from_bare t (raw_of part) h.plain.kind; held = h.plain.held; untyped = h.plain.untyped }; is = h.is })
-    to_type (Err f) h = λ bad. stuck-as (HasValues t) any (bare t) t old now same weaker (h bad)
+    to_type (Err f) h = λ bad. stuck-as (Has t) any (bare t) t old now same weaker (h bad)
+
+-- a refusal says why
+pub err-stuck : {A : Type 0} (P : A → Type 0) (Why : Type 0) (r : Result A KeyDecodeError) (e : KeyDecodeError) → IsErr r × IsErrAnd r (λ f. f ≡ e) → Why → MatchResult r P (λ f. Why)
+err-stuck P Why (Ok x) e h why = absurd (true≢false (sym h.0))
+err-stuck P Why (Err f) e h why = why
 
 pub ruleset shown = (null-read, present-read, present-stuck, value_tree-Tuple, value_tree-Union, type_size_item, child-size, type_of-List, type_of-FixedSizeList, type_of-Map, type_of-Struct, type_of-Union, type_of-Extension)

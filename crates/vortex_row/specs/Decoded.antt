@@ -1,5 +1,5 @@
 -- What a decoder answers of bytes: the value whose key they begin with, or the first byte that no key has there.
-use Rattle.std.specs.Prelude.{◌≡◌, ℕ, suc, ◌<◌, ◌≤◌, List, [], ◌∷◌, ◌++◌, length, map, take, MatchResult, Result, Vec}
+use Rattle.std.specs.Prelude.{◌≡◌, ◌⊎◌, ℕ, suc, ◌<◌, ◌≤◌, List, [], ◌∷◌, ◌++◌, length, map, take, MatchResult, Result, Vec}
 use Rattle.std.specs.Global.{Global}
 use Rattle.vortex_dtype.specs.TypeTree.{TypeTree, TypeTrees, no_types, type_then}
 use Rattle.vortex_value.specs.Validity.{Valid}
@@ -56,11 +56,11 @@ pub record MayBegin (IsOne : List ℕ → Type 0) (bytes : List ℕ) : Type 0 wh
   pub is_one : IsOne key
   pub is : bytes ++ more ≡ key ++ rest
 
--- the offset of the first byte that none of the keys has: those before may begin a key, if each type has values, and with
--- it they may not. If the bytes end too early, it is the offset after them
-pub record IsFirstBad (IsOne : List ℕ → Type 0) (has_values : Type 0) (bytes : List ℕ) (place : ℕ) : Type 0 where
+-- The offset of the first byte that none of the keys has: those before, if there are any, may begin a key, and with it they
+-- may not. If there are no keys, it is 0. If the bytes end too early, it is the offset after them
+pub record IsFirstBad (IsOne : List ℕ → Type 0) (bytes : List ℕ) (place : ℕ) : Type 0 where
   pub within : place ≤ length bytes
-  pub before : has_values → MayBegin IsOne (take place bytes)
+  pub before : (place ≡ 0) ⊎ MayBegin IsOne (take place bytes)
   pub bad : place < length bytes → ¬ (MayBegin IsOne (take (suc place) bytes))
   pub no_key : (k rest : List ℕ) → IsOne k → ¬ (bytes ≡ k ++ rest)
 

@@ -1,8 +1,10 @@
 -- What the steps of a decoder answer: what they read, or that the bytes go on as no key does.
-use Rattle.std.specs.Prelude.{◌≡◌, ℕ, ◌<◌, ◌⊎◌, List, [], ◌∷◌, ◌++◌, MatchResult, Option, Result, Bool, false, Some}
+use Rattle.std.specs.Prelude.{◌≡◌, ℕ, ◌<◌, ◌⊎◌, List, [], ◌∷◌, ◌++◌, MatchResult, Option, Result, Bool, false, true, Some}
 use Rattle.vortex_dtype.specs.TypeTree.{TypeTree, list_type, fixed_size_list_type, map_type, struct_type, union_type, variant_type, extension_type, TypeTrees, no_types, type_then}
 use Rattle.vortex_dtype.specs.declared.nullability.Nullability.TheVariants.{NonNullable}
+use Rattle.vortex_cells.specs.Variants.{HasByteIds, HaveByteIds}
 use Rattle.vortex_value.specs.Equality.{HasNoTyped, HaveNoTyped}
+use Rattle.vortex_value.specs.TypesWithin.{HasNoVariant, HaveNoVariant}
 use Rattle.vortex_value.specs.Validity.{EachValid, Valid, type_with}
 use Rattle.vortex_value.specs.Values.Content.{content, contents}
 use Rattle.vortex_value.specs.Values.RawOf.{raw_of}
@@ -112,6 +114,41 @@ abbrev mutual
   pub AllHaveValues : TypeTrees → Type 0
   AllHaveValues no_types = Unit {0}
   AllHaveValues (type_then t ts) = HasValues t × AllHaveValues ts
+
+-- this holds of types that are not sparse: each union in them has a variant
+abbrev pub IfDense : Bool → Type 0 → Type 0
+IfDense is_sparse P = is_sparse ≡ false → P
+
+-- no variant stands in the type, and the first id of each union in it is a byte
+abbrev pub IsKeyed : TypeTree → Type 0
+IsKeyed t = HasNoVariant t × HasByteIds t
+
+-- and so of each of the types
+abbrev pub AreKeyed : TypeTrees → Type 0
+AreKeyed ts = HaveNoVariant ts × HaveByteIds ts
+
+-- there is a value of this kind that a key can have
+abbrev pub HasPlain : (RawTree → Type 0) → Type 0
+HasPlain IsOne = (v : RawTree) × IsPlain IsOne v
+
+-- there are parts of this kind that keys can have
+abbrev pub HavePlain : (RawTrees → Type 0) → Type 0
+HavePlain AreAll = (vs : RawTrees) × ArePlain AreAll vs
+
+-- there is such a string
+abbrev pub HasOne : (List ℕ → Type 0) → Type 0
+HasOne Is = (s : List ℕ) × Is s
+
+-- one of the types has this id, and has a value that a key can have
+pub record HasChild (id : ℕ) (ids : List ℕ) (ts : TypeTrees) : Type 0 where
+  pub type : TypeTree
+  pub has : type_with id ids ts ≡ Some type
+  pub value : HasPlain (Valid type)
+
+-- the Boolean says whether this is so
+abbrev pub Tells : Bool → Type 0 → Type 0
+Tells true P = P
+Tells false P = ¬ P
 
 -- a value of the type that is no null
 pub record IsPresent (t : TypeTree) (v : RawTree) : Type 0 where

@@ -5,14 +5,15 @@ pub use Rattle.std.specs.List.{All}
 pub use Rattle.std.specs.Ordering.{nat_cmp}
 pub use Rattle.std.specs.Vec.{vec_capacity, vec_len}
 pub use Rattle.vortex_dtype.specs.TypeOf.{as_type_trees, dtype_trees, map_of, type_of, variants_of}
-pub use Rattle.vortex_dtype.specs.TypeTree.{IsNullable, binary_type, bool_type, fixed_size_list_type, integer_type, list_type, map_type, struct_type, union_type, utf8_type}
+pub use Rattle.vortex_dtype.specs.TypeTree.{IsNullable, binary_type, bool_type, fixed_size_list_type, integer_type, list_type, map_type, no_types, struct_type, type_then, union_type, utf8_type}
 pub use Rattle.vortex_dtype.specs.declared.nullability.Nullability.TheVariants.{NonNullable}
 pub use Rattle.vortex_pvalue.specs.Conversions.{IsNumber}
 pub use Rattle.vortex_pvalue.specs.Numbers.{InRange}
 pub use Rattle.vortex_pvalue.specs.Whole.{ptype_of, whole_of}
+pub use Rattle.vortex_value.specs.Equality.{HasNoTyped}
 pub use Rattle.vortex_value.specs.Size.{capped}
-pub use Rattle.vortex_value.specs.TypesWithin.{HasNoVariant, HaveNoVariant, UnionsHaveVariants, AllHaveVariants}
-pub use Rattle.vortex_value.specs.Validity.{Valid, type_with}
+pub use Rattle.vortex_value.specs.TypesWithin.{HasNoVariant, HaveNoVariant}
+pub use Rattle.vortex_value.specs.Validity.{FieldsValid, Valid, type_with}
 pub use Rattle.vortex_value.specs.Values.Content.{content, contents}
 pub use Rattle.vortex_value.specs.Values.RawOf.{lent_raw, raw_of, union_tree, value_tree, value_trees}
 pub use Rattle.vortex_value.specs.Values.RawTree.{RawTree, absent, raw_integer, raw_union}
@@ -28,4 +29,5 @@ pub use Rattle.vortex_row.specs.Laws.{CastsKeepKeys, KeysAreApart, KeysAreOrdere
 pub use Rattle.vortex_row.specs.Plain.{plain_content}
 pub use Rattle.vortex_row.specs.Slots.{HasSlot, Writes}
 pub use Rattle.vortex_row.specs.Steps.{HasAppended, inverted_word, keys_length, side_byte, side_key}
+pub use Rattle.vortex_row.specs.Typed.{HasKey, has_typed, have_typed}
 pub use Rattle.vortex_row.specs.declared.error.RowError.TheVariants.{BadKey, HasVariant, OutOfMemory, WrongLength}

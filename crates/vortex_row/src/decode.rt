@@ -3,6 +3,7 @@
 mod columns;
 mod leaves;
 mod numbers;
+mod sparse;
 mod strings;
 mod texts;
 mod values;
@@ -10,8 +11,8 @@ mod values;
 ghost use Rattle.std.specs.Prelude.{◌≡◌, ◌≢◌, ◌↔◌, ◌⊎◌, ℕ, List, Err, IfErr, IfOk, OnOk, length};
 ghost use Rattle.vortex_row.specs.Decoded.{BeginsWithKey, BeginsWithRow, DecodesInto, DecodesRowTo, DecodesTo};
 ghost use Rattle.vortex_row.specs.Decoded.{IsDecoded, IsDecodedRow, IsFirstBad, IsKeyOf, IsRowKeyOf};
-ghost use Rattle.vortex_row.specs.Words.{AllHaveVariants, BadKey, HasNoVariant, HasVariant, HaveNoVariant, OutOfMemory};
-ghost use Rattle.vortex_row.specs.Words.{RawTree, UnionsHaveVariants, WrongLength, dtype_trees, type_of};
+ghost use Rattle.vortex_row.specs.Words.{BadKey, HasNoVariant, HasVariant, HaveNoVariant, OutOfMemory};
+ghost use Rattle.vortex_row.specs.Words.{RawTree, WrongLength, dtype_trees, type_of};
 
 use crate::error::RowError;
 use crate::options::SortOptions;
@@ -28,8 +29,8 @@ use vortex_value::laws::one_value;
 ///
 /// `HasVariant` exactly if a variant stands in the type, at any depth. Else `BadKey` if the bytes
 /// begin with no key of a value of the type: its offset is that of the first byte that no such key
-/// has there, or of the end if they end too early. If a union without variants stands in the type,
-/// it may be that of a later byte. `OutOfMemory` may come in place of each answer but `HasVariant`.
+/// has there, or of the end if they end too early. `OutOfMemory` may come in place of each answer
+/// but `HasVariant`.
 #[tactic(auto, using(crate::proofs::DecodeSteps::answers))]
 pub fn decode_key(
     alloc: Global,
@@ -45,8 +46,7 @@ pub fn decode_key(
     ensures ordered { OnOk result (HasNoVariant (type_of dtype.now)) }
     ensures variant { (result ≡ Err HasVariant) ↔ ¬ (HasNoVariant (type_of dtype.now)) }
     ensures bad { (place : ℕ) → result ≡ Err (BadKey place)
-        → IsFirstBad (IsKeyOf options (type_of dtype.now))
-        (UnionsHaveVariants (type_of dtype.now)) bytes.now place }
+        → IsFirstBad (IsKeyOf options (type_of dtype.now)) bytes.now place }
     ensures refused { IfErr result (λ e. (e ≡ HasVariant) ⊎ ((e ≡ OutOfMemory)
         ⊎ ((place : ℕ) × (e ≡ BadKey place)))) }
 {
@@ -76,8 +76,7 @@ pub fn decode_key_into(
     ensures ordered { OnOk result (HasNoVariant (type_of dtype.now)) }
     ensures variant { (result ≡ Err HasVariant) ↔ ¬ (HasNoVariant (type_of dtype.now)) }
     ensures bad { (place : ℕ) → result ≡ Err (BadKey place)
-        → IsFirstBad (IsKeyOf options (type_of dtype.now))
-        (UnionsHaveVariants (type_of dtype.now)) bytes.now place }
+        → IsFirstBad (IsKeyOf options (type_of dtype.now)) bytes.now place }
     ensures refused { IfErr result (λ e. (e ≡ HasVariant) ⊎ ((e ≡ OutOfMemory)
         ⊎ ((place : ℕ) × (e ≡ BadKey place)))) }
 {
@@ -92,9 +91,8 @@ pub fn decode_key_into(
 /// `WrongLength` exactly if there are not as many types as options, before all else; then
 /// `HasVariant` exactly if a variant stands in one of the types, at any depth. Else `BadKey` if the
 /// bytes begin with no key of a row of values of the types: its offset is that of the first byte
-/// that no such key has there, or of the end if they end too early. If a union without variants
-/// stands in one of the types, it may be that of a later byte. `OutOfMemory` may come in place of
-/// each answer but the first two refusals.
+/// that no such key has there, or of the end if they end too early. `OutOfMemory` may come in place
+/// of each answer but the first two refusals.
 #[tactic(auto, using(crate::proofs::RowDecodeSteps::answers))]
 pub fn decode_row_key(
     alloc: Global,
@@ -114,8 +112,7 @@ pub fn decode_row_key(
     ensures variant { (result ≡ Err HasVariant) ↔ ((length dtypes.now ≡ length options.now)
         × ¬ (HaveNoVariant (dtype_trees dtypes.now))) }
     ensures bad { (place : ℕ) → result ≡ Err (BadKey place)
-        → IsFirstBad (IsRowKeyOf options.now (dtype_trees dtypes.now))
-        (AllHaveVariants (dtype_trees dtypes.now)) bytes.now place }
+        → IsFirstBad (IsRowKeyOf options.now (dtype_trees dtypes.now)) bytes.now place }
     ensures refused { IfErr result (λ e.
         (e ≡ WrongLength (length options.now) (length dtypes.now))
         ⊎ ((e ≡ HasVariant) ⊎ ((e ≡ OutOfMemory) ⊎ ((place : ℕ) × (e ≡ BadKey place))))) }

@@ -18,7 +18,7 @@ mod variants;
 
 pub use decode::{decode_key, decode_key_into, decode_row_key};
 pub use error::RowError;
-pub use keys::{append_key, compare_keys, key_length};
+pub use keys::{append_key, compare_keys, has_key, key_length};
 pub use options::SortOptions;
 pub use plain::{PlainValue, plain_key_length, write_plain_key};
 pub use rows::{RowEncoder, append_row_key};

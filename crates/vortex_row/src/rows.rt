@@ -3,25 +3,26 @@
 
 ghost use Rattle.std.specs.Prelude.{◌+◌, ◌++◌, ◌<◌, ◌≡◌, ◌≢◌, ◌≤◌, ◌↔◌, ◌⊎◌, Err, IfErr, IfOk, IsOk, OnErr, OnOk};
 ghost use Rattle.std.specs.Prelude.{length, map, take};
-ghost use Rattle.vortex_row.specs.Words.{All, HasNoVariant, HasSlot, HasVariant, HaveNoVariant, IsHeld, OutOfMemory};
-ghost use Rattle.vortex_row.specs.Words.{WrongLength, capped, dtype_trees, encoder_options, encoder_types, keys_length};
-ghost use Rattle.vortex_row.specs.Words.{ref_content, ref_type, row_key, type_of, vec_capacity, vec_len, Writes};
+ghost use Rattle.vortex_row.specs.Words.{All, HasKey, HasNoTyped, HasNoVariant, HasSlot, HasVariant, HaveNoVariant};
+ghost use Rattle.vortex_row.specs.Words.{IsHeld, OutOfMemory, WrongLength, capped, dtype_trees, encoder_options};
+ghost use Rattle.vortex_row.specs.Words.{encoder_types, keys_length, ref_content, ref_type, row_key, type_of};
+ghost use Rattle.vortex_row.specs.Words.{vec_capacity, vec_len, Writes};
 
 use crate::encode::put_column;
 use crate::error::RowError;
 use crate::keys::extend;
 use crate::lengths::{length, length_bound};
 use crate::options::SortOptions;
-use crate::variants::{expect_no_variant, expect_no_variants};
+use crate::variants::{expect_key, expect_no_variants, expect_untyped};
 use vortex_dtype::DType;
 use vortex_value::ScalarRef;
 
 /// Appends the key of a row: the keys of its values, each in a column that is sorted so.
 ///
 /// `WrongLength` exactly if there are not as many values as options, before all else; then
-/// `HasVariant` exactly if a variant stands in the type of one of the values. Else `OutOfMemory` is
-/// the only refusal, and never comes if `out` has capacity for the key. After a refusal `out` has
-/// the bytes that it had. [`RowEncoder`] looks for variants once for many rows.
+/// `HasVariant` exactly if a variant stands in the type of one of the values, or in one of them.
+/// Else `OutOfMemory` is the only refusal, and never comes if `out` has capacity for the key. After
+/// a refusal `out` has the bytes that it had. [`RowEncoder`] looks into types once for many rows.
 pub fn append_row_key(
     values: &[ScalarRef<'_>],
     options: &[SortOptions],
@@ -31,21 +32,22 @@ pub fn append_row_key(
         (out.new.items ≡ out.old.items ++ row_key options.now (map ref_content values.now)) }
     ensures held { OnOk result (All IsHeld (map ref_content values.now)) }
     ensures ordered { OnOk result (All (λ x. HasNoVariant (ref_type x)) values.now) }
+    ensures untyped { OnOk result (All HasNoTyped (map ref_content values.now)) }
     ensures lengths { (result ≡ Err (WrongLength (length options.now) (length values.now)))
         ↔ (length values.now ≢ length options.now) }
     ensures variant { (result ≡ Err HasVariant) ↔ ((length values.now ≡ length options.now)
-        × ¬ (All (λ x. HasNoVariant (ref_type x)) values.now)) }
+        × ¬ (All (λ x. HasKey (ref_type x) (ref_content x)) values.now)) }
     ensures refused { IfErr result (λ e.
         (e ≡ WrongLength (length options.now) (length values.now))
         ⊎ ((e ≡ HasVariant) ⊎ (e ≡ OutOfMemory))) }
     ensures room { length values.now ≡ length options.now
-        → All (λ x. HasNoVariant (ref_type x)) values.now
+        → All (λ x. HasKey (ref_type x) (ref_content x)) values.now
         → vec_len out.old + keys_length (map ref_content values.now) ≤ vec_capacity out.old
         → IsOk result }
     ensures unchanged { OnErr result (out.new.items ≡ out.old.items) }
 {
     expect_length(options.len(), values.len())?;
-    expect_ordered(values)?;
+    expect_keys(values)?;
     append_row(values, options, out)
 }
 
@@ -96,27 +98,34 @@ impl<'a> RowEncoder<'a> {
     }
 
     /// Appends the key of a row: the keys of its values, whatever types they have, each in the
-    /// column of its place. Values of the columns' types have no variants.
+    /// column of its place.
     ///
-    /// `WrongLength` exactly if there are not as many values as columns. Else `OutOfMemory` is the
-    /// only refusal, and never comes if `out` has capacity for the key. After a refusal `out` has
-    /// the bytes that it had.
+    /// `WrongLength` exactly if there are not as many values as columns, before all else; then
+    /// `HasVariant` exactly if a variant stands in one of the values, which no valid value of the
+    /// columns' types has. Else `OutOfMemory` is the only refusal, and never comes if `out` has
+    /// capacity for the key. After a refusal `out` has the bytes that it had.
     pub fn append(&self, values: &[ScalarRef<'_>], out: &mut Vec<u8>) -> Result<(), RowError>
         ensures appended { OnOk result (out.new.items
             ≡ out.old.items ++ row_key (encoder_options self.now) (map ref_content values.now)) }
         ensures held { OnOk result (All IsHeld (map ref_content values.now)) }
+        ensures untyped { OnOk result (All HasNoTyped (map ref_content values.now)) }
         ensures lengths { (result ≡ Err
             (WrongLength (length (encoder_options self.now)) (length values.now)))
             ↔ (length values.now ≢ length (encoder_options self.now)) }
+        ensures variant { (result ≡ Err HasVariant)
+            ↔ ((length values.now ≡ length (encoder_options self.now))
+            × ¬ (All HasNoTyped (map ref_content values.now))) }
         ensures refused { IfErr result (λ e.
             (e ≡ WrongLength (length (encoder_options self.now)) (length values.now))
-            ⊎ (e ≡ OutOfMemory)) }
+            ⊎ ((e ≡ HasVariant) ⊎ (e ≡ OutOfMemory))) }
         ensures room { length values.now ≡ length (encoder_options self.now)
+            → All HasNoTyped (map ref_content values.now)
             → vec_len out.old + keys_length (map ref_content values.now) ≤ vec_capacity out.old
             → IsOk result }
         ensures unchanged { OnErr result (out.new.items ≡ out.old.items) }
     {
         expect_length(self.options.len(), values.len())?;
+        expect_all_untyped(values)?;
         append_row(values, self.options, out)
     }
 }
@@ -133,14 +142,28 @@ pub(crate) fn expect_length(expected: usize, found: usize) -> Result<(), RowErro
     Ok(())
 }
 
-/// `HasVariant` exactly if a variant stands in the type of one of the values.
-fn expect_ordered(values: &[ScalarRef<'_>]) -> Result<(), RowError>
+/// `HasVariant` exactly if a variant stands in the type of one of the values, or in one of them.
+#[tactic(auto, using(crate::proofs::TypedSteps::rows))]
+fn expect_keys(values: &[ScalarRef<'_>]) -> Result<(), RowError>
     ensures ordered { OnOk result (All (λ x. HasNoVariant (ref_type x)) values.now) }
-    ensures refused { IfErr result
-        (λ e. (e ≡ HasVariant) × ¬ (All (λ x. HasNoVariant (ref_type x)) values.now)) }
+    ensures untyped { OnOk result (All HasNoTyped (map ref_content values.now)) }
+    ensures keyed { OnOk result (All (λ x. HasKey (ref_type x) (ref_content x)) values.now) }
+    ensures refused { IfErr result (λ e. (e ≡ HasVariant) × ¬ (All (λ x. HasKey (ref_type x) (ref_content x)) values.now)) }
 {
     for value in values {
-        expect_no_variant(value.dtype())?;
+        expect_key(*value)?;
+    }
+    Ok(())
+}
+
+/// `HasVariant` exactly if a variant stands in one of the values.
+fn expect_all_untyped(values: &[ScalarRef<'_>]) -> Result<(), RowError>
+    ensures untyped { OnOk result (All HasNoTyped (map ref_content values.now)) }
+    ensures refused { IfErr result
+        (λ e. (e ≡ HasVariant) × ¬ (All HasNoTyped (map ref_content values.now))) }
+{
+    for value in values {
+        expect_untyped(*value)?;
     }
     Ok(())
 }

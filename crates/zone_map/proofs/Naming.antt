@@ -1,17 +1,15 @@
 -- Names among others.
-use Rattle.std.proofs.Common.{Bool, true, false, ◌≡◌, ◌≢◌, ◌<◌, ◌≤◌, ◌+◌, ◌⊎◌, ℕ, suc, List, [], ◌∷◌, ◌++◌, length, get_or, take, map, subst, arith, ◌∙◌, ap, sym, refl, inl, inr, ⊎_elim, replicate, below_more}
+use Rattle.std.proofs.Common.{Bool, true, false, ◌≡◌, ◌≢◌, ◌<◌, ◌≤◌, ◌+◌, ◌⊎◌, ℕ, List, [], ◌∷◌, ◌++◌, length, get_or, take, subst, arith, ◌∙◌, ap, sym, refl, replicate, below_more}
 use Rattle.std.specs.Prelude.{All, AllPairs, Contains}
 use Rattle.std.specs.List.{sum_by}
 use Rattle.std.proofs.lemmas.List.{append_assoc, get_or-map, get_or-take, get_or_append_left, get_or_default, get_or_push, length-append, length-map, length-take-le, map-append, replicate_more}
 use Rattle.std.proofs.lemmas.List.Elements.{All-append, All-cons, All-from_recursion, All-push, All-replicate}
 use Rattle.std.proofs.lemmas.List.Quantifiers.{all_pairs_push}
 use Rattle.std.proofs.lemmas.List.Sums.{get_or-le-sum_by}
-use Rattle.std.specs.Char.{digit_value}
-use Rattle.std.specs.Fmt.{decimal}
 use Rattle.std.specs.Prelude.{codes, min, string_bytes}
 use Rattle.std.specs.declared.string.String.{String}
 use Rattle.std.specs.Global.{Global}
-use Rattle.zone_map.specs.Names.{IsName, KeepsNames, made_up, texts}
+use Rattle.zone_map.specs.Names.{IsName, made_up, texts}
 use Rattle.zone_map.proofs.Clear.{decimal_lacks}
 
 -- a name that is one of these is no longer than all of them

@@ -1,10 +1,10 @@
 //! Values from their keys, down the type. A refusal leaves the reader before the first byte that
-//! cannot be.
+//! cannot be. Where the type is sparse, what has no value is refused before its first byte.
 
 ghost use Rattle.std.specs.Prelude.{◌≡◌, ◌≢◌, ◌++◌, ◌∷◌, ◌<◌, [], ℕ, List, MatchOption, MatchResult, Some, false};
-ghost use Rattle.std.specs.Prelude.{option_map, true};
-ghost use Rattle.vortex_row.specs.Reading.{AllHaveValues, HasRead, HasValues, IsChild, IsPresent, IsStuck, Puts, Reads};
-ghost use Rattle.vortex_row.specs.Reading.{ReadsInto, entry_type, left};
+ghost use Rattle.std.specs.Prelude.{true};
+ghost use Rattle.vortex_row.specs.Reading.{AllHaveValues, HasPlain, HasRead, HasValues, IfDense, IsChild, IsKeyed};
+ghost use Rattle.vortex_row.specs.Reading.{IsPresent, IsStuck, Puts, Reads, ReadsInto, entry_type, left};
 ghost use Rattle.vortex_row.specs.Words.{IsNullable, NonNullable, Valid, absent, as_type_trees, dtype_trees};
 ghost use Rattle.vortex_row.specs.Words.{fixed_size_list_type, integer_type, list_type, map_of, map_type, raw_of};
 ghost use Rattle.vortex_row.specs.Words.{raw_union, struct_type, type_of, type_with, union_tree, union_type};
@@ -13,22 +13,15 @@ ghost use Rattle.vortex_row.specs.declared.reader.KeyDecodeError.TheVariants.{Ba
 
 use super::leaves::{put_number, put_text, read_binary, read_primitive, read_truth, read_utf8};
 use super::numbers::read_number;
+use super::sparse::{
+    expect_child, expect_entry, expect_fields, expect_sized, expect_value, has_empty_union,
+    variant_with,
+};
 use crate::reader::{KeyDecodeError, Reader};
 use crate::tags::{END, NULL, SEQUENCE, TAGGED};
 use std::alloc::Global;
 use vortex_dtype::{DType, MapDType, PType, UnionVariants};
 use vortex_value::{ScalarValue, UnionValue};
-
-/// The type of the variant with this id, if there is one.
-#[tactic(auto, using(crate::proofs::ValueSteps::by_place))]
-fn variant_with(variants: &UnionVariants, id: u8) -> Option<&DType>
-    ensures { option_map (λ v. type_of v.now) result
-        ≡ type_with id (variants_of variants.now).type_ids
-        (as_type_trees (variants_of variants.now).types) }
-{
-    let index = variants.tag_to_child_index(id)?;
-    variants.variant_by_index(index)
-}
 
 /// Puts a part to the others.
 #[inline(always)]
@@ -90,14 +83,15 @@ pub(super) fn read(
     alloc: Global,
     dtype: &DType,
     reader: &mut Reader<'_>,
+    is_sparse: bool,
 ) -> Result<Option<ScalarValue>, KeyDecodeError>
-    ensures { Reads (HasValues (type_of dtype.now)) (Valid (type_of dtype.now)) raw_of
+    ensures { Reads (IfDense is_sparse (HasValues (type_of dtype.now))) (Valid (type_of dtype.now)) raw_of
         result (left reader.old) (left reader.new) }
 {
     if takes_null(dtype, reader) {
         return Ok(None);
     }
-    Ok(Some(read_value(alloc, dtype, reader)?))
+    Ok(Some(read_value(alloc, dtype, reader, is_sparse)?))
 }
 
 /// Puts a number of the kind to the others.
@@ -122,11 +116,12 @@ fn push_value(
     dtype: &DType,
     reader: &mut Reader<'_>,
     parts: &mut Vec<Option<ScalarValue>>,
+    is_sparse: bool,
 ) -> Result<(), KeyDecodeError>
-    ensures { Puts (HasValues (type_of dtype.now)) (IsPresent (type_of dtype.now)) result
+    ensures { Puts (IfDense is_sparse (HasValues (type_of dtype.now))) (IsPresent (type_of dtype.now)) result
         parts.old.items parts.new.items (left reader.old) (left reader.new) }
 {
-    let value = read_value(alloc, dtype, reader)?;
+    let value = read_value(alloc, dtype, reader, is_sparse)?;
     push(Some(value), parts)
 }
 
@@ -139,8 +134,9 @@ fn push_next(
     dtype: &DType,
     reader: &mut Reader<'_>,
     parts: &mut Vec<Option<ScalarValue>>,
+    is_sparse: bool,
 ) -> Result<(), KeyDecodeError>
-    ensures { Puts (HasValues (type_of dtype.now)) (Valid (type_of dtype.now)) result
+    ensures { Puts (IfDense is_sparse (HasValues (type_of dtype.now))) (Valid (type_of dtype.now)) result
         parts.old.items parts.new.items (left reader.old) (left reader.new) }
 {
     if takes_null(dtype, reader) {
@@ -148,7 +144,7 @@ fn push_next(
     }
     match dtype {
         DType::Primitive(ptype, _) => push_number(*ptype, reader, parts),
-        _ => push_value(alloc, dtype, reader, parts),
+        _ => push_value(alloc, dtype, reader, parts, is_sparse),
     }
 }
 
@@ -159,8 +155,9 @@ pub(super) fn read_value(
     alloc: Global,
     dtype: &DType,
     reader: &mut Reader<'_>,
+    is_sparse: bool,
 ) -> Result<ScalarValue, KeyDecodeError>
-    ensures { Reads (HasValues (type_of dtype.now)) (IsPresent (type_of dtype.now)) value_tree
+    ensures { Reads (IfDense is_sparse (HasValues (type_of dtype.now))) (IsPresent (type_of dtype.now)) value_tree
         result (left reader.old) (left reader.new) }
 {
     match dtype {
@@ -168,12 +165,16 @@ pub(super) fn read_value(
         DType::Primitive(ptype, _) => read_primitive(*ptype, reader),
         DType::Utf8(_) => read_utf8(alloc, reader),
         DType::Binary(_) => read_binary(alloc, reader),
-        DType::List(element, _) => read_list(alloc, element, reader),
-        DType::FixedSizeList(element, size, _) => read_fixed(alloc, element, *size, reader),
-        DType::Map(map, _) => read_map(alloc, map, reader),
-        DType::Struct(fields, _) => read_struct(alloc, fields.dtypes(), reader),
-        DType::Union(variants, _) => read_union(alloc, variants, reader),
-        DType::Extension(extension) => read_value(alloc, extension.storage_dtype(), reader),
+        DType::List(element, _) => read_list(alloc, element, reader, is_sparse),
+        DType::FixedSizeList(element, size, _) => read_fixed(
+            alloc, element, *size, reader, is_sparse,
+        ),
+        DType::Map(map, _) => read_map(alloc, map, reader, is_sparse),
+        DType::Struct(fields, _) => read_struct(alloc, fields.dtypes(), reader, is_sparse),
+        DType::Union(variants, _) => read_union(alloc, variants, reader, is_sparse),
+        DType::Extension(extension) => {
+            read_value(alloc, extension.storage_dtype(), reader, is_sparse)
+        }
         DType::Null | DType::Variant(_) => Err(KeyDecodeError::Bad),
     }
 }
@@ -187,7 +188,7 @@ pub(super) fn read_into(
     reader: &mut Reader<'_>,
     place: &mut Option<ScalarValue>,
 ) -> Result<(), KeyDecodeError>
-    ensures { ReadsInto (HasValues (type_of dtype.now)) (IsPresent (type_of dtype.now)) result
+    ensures { ReadsInto (IsKeyed (type_of dtype.now)) (IsPresent (type_of dtype.now)) result
         (raw_of place.new) (left reader.old) (left reader.new) }
 {
     match dtype {
@@ -205,10 +206,10 @@ fn put_value(
     reader: &mut Reader<'_>,
     place: &mut Option<ScalarValue>,
 ) -> Result<(), KeyDecodeError>
-    ensures { ReadsInto (HasValues (type_of dtype.now)) (IsPresent (type_of dtype.now)) result
+    ensures { ReadsInto (IsKeyed (type_of dtype.now)) (IsPresent (type_of dtype.now)) result
         (raw_of place.new) (left reader.old) (left reader.new) }
 {
-    *place = Some(read_value(alloc, dtype, reader)?);
+    *place = Some(read_value(alloc, dtype, reader, has_empty_union(dtype))?);
     Ok(())
 }
 
@@ -219,15 +220,16 @@ fn read_list(
     alloc: Global,
     element: &DType,
     reader: &mut Reader<'_>,
+    is_sparse: bool,
 ) -> Result<ScalarValue, KeyDecodeError>
-    ensures { Reads (HasValues (type_of element.now))
+    ensures { Reads (IfDense is_sparse (HasValues (type_of element.now)))
         (IsPresent (list_type (type_of element.now) NonNullable)) value_tree
         result (left reader.old) (left reader.new) }
 {
     reader.take(SEQUENCE)?;
     let mut parts = Vec::new(alloc);
     while !reader.takes(END) {
-        push_next(alloc, element, reader, &mut parts)?;
+        push_next(alloc, element, reader, &mut parts, is_sparse)?;
     }
     Ok(ScalarValue::Tuple(parts))
 }
@@ -240,15 +242,17 @@ fn read_fixed(
     element: &DType,
     size: u32,
     reader: &mut Reader<'_>,
+    is_sparse: bool,
 ) -> Result<ScalarValue, KeyDecodeError>
-    ensures { Reads (HasValues (type_of element.now))
+    ensures { Reads (IfDense is_sparse (HasValues (type_of element.now)))
         (IsPresent (fixed_size_list_type (type_of element.now) size NonNullable)) value_tree
         result (left reader.old) (left reader.new) }
 {
+    expect_sized(element, size, is_sparse)?;
     reader.take(SEQUENCE)?;
     let mut parts = Vec::new(alloc);
     for place in 0..size {
-        push_next(alloc, element, reader, &mut parts)?;
+        push_next(alloc, element, reader, &mut parts, is_sparse)?;
     }
     reader.take(END)?;
     Ok(ScalarValue::Tuple(parts))
@@ -261,15 +265,17 @@ fn read_map(
     alloc: Global,
     map: &MapDType,
     reader: &mut Reader<'_>,
+    is_sparse: bool,
 ) -> Result<ScalarValue, KeyDecodeError>
-    ensures { Reads (HasValues (map_of map.now).key × HasValues (map_of map.now).value)
+    ensures { Reads (IfDense is_sparse
+        (HasValues (map_of map.now).key × HasValues (map_of map.now).value))
         (IsPresent (map_type (map_of map.now).key (map_of map.now).value false NonNullable))
         value_tree result (left reader.old) (left reader.new) }
 {
     reader.take(SEQUENCE)?;
     let mut parts = Vec::new(alloc);
     while !reader.takes(END) {
-        push(Some(read_entry(alloc, map, reader)?), &mut parts)?;
+        push(Some(read_entry(alloc, map, reader, is_sparse)?), &mut parts)?;
     }
     Ok(ScalarValue::Tuple(parts))
 }
@@ -281,15 +287,18 @@ fn read_entry(
     alloc: Global,
     map: &MapDType,
     reader: &mut Reader<'_>,
+    is_sparse: bool,
 ) -> Result<ScalarValue, KeyDecodeError>
-    ensures { Reads (HasValues (map_of map.now).key × HasValues (map_of map.now).value)
+    ensures { Reads (IfDense is_sparse
+        (HasValues (map_of map.now).key × HasValues (map_of map.now).value))
         (IsPresent (entry_type (map_of map.now).key (map_of map.now).value)) value_tree
         result (left reader.old) (left reader.new) }
 {
+    expect_entry(map, is_sparse)?;
     reader.take(SEQUENCE)?;
     let mut parts = Vec::new(alloc);
-    push_next(alloc, map.key_dtype(), reader, &mut parts)?;
-    push_next(alloc, map.value_dtype(), reader, &mut parts)?;
+    push_next(alloc, map.key_dtype(), reader, &mut parts, is_sparse)?;
+    push_next(alloc, map.value_dtype(), reader, &mut parts, is_sparse)?;
     reader.take(END)?;
     Ok(ScalarValue::Tuple(parts))
 }
@@ -301,15 +310,17 @@ fn read_struct(
     alloc: Global,
     dtypes: &[DType],
     reader: &mut Reader<'_>,
+    is_sparse: bool,
 ) -> Result<ScalarValue, KeyDecodeError>
-    ensures { Reads (AllHaveValues (dtype_trees dtypes.now))
+    ensures { Reads (IfDense is_sparse (AllHaveValues (dtype_trees dtypes.now)))
         (IsPresent (struct_type [] (dtype_trees dtypes.now) NonNullable)) value_tree
         result (left reader.old) (left reader.new) }
 {
+    expect_fields(dtypes, is_sparse)?;
     reader.take(SEQUENCE)?;
     let mut parts = Vec::new(alloc);
     for dtype in dtypes {
-        push_next(alloc, dtype, reader, &mut parts)?;
+        push_next(alloc, dtype, reader, &mut parts, is_sparse)?;
     }
     reader.take(END)?;
     Ok(ScalarValue::Tuple(parts))
@@ -322,18 +333,20 @@ fn read_union(
     alloc: Global,
     variants: &UnionVariants,
     reader: &mut Reader<'_>,
+    is_sparse: bool,
 ) -> Result<ScalarValue, KeyDecodeError>
-    ensures { Reads (HasValues (union_type []
+    ensures { Reads (IfDense is_sparse (HasValues (union_type []
         (as_type_trees (variants_of variants.now).types)
-        (variants_of variants.now).type_ids NonNullable))
+        (variants_of variants.now).type_ids NonNullable)))
         (IsPresent (union_type []
         (as_type_trees (variants_of variants.now).types)
         (variants_of variants.now).type_ids NonNullable))
         value_tree result (left reader.old) (left reader.new) }
 {
+    expect_child(variants, is_sparse)?;
     reader.take(TAGGED)?;
-    let (id, dtype) = variant_at(variants, reader)?;
-    let child = read(alloc, dtype, reader)?;
+    let (id, dtype) = variant_at(variants, reader, is_sparse)?;
+    let child = read(alloc, dtype, reader, is_sparse)?;
     Ok(ScalarValue::Union(union_of(alloc, id, child)?))
 }
 
@@ -342,12 +355,15 @@ fn read_union(
 fn variant_at<'a>(
     variants: &'a UnionVariants,
     reader: &mut Reader<'_>,
+    is_sparse: bool,
 ) -> Result<(u8, &'a DType), KeyDecodeError>
     ensures { MatchResult result
         (λ p. (left reader.old ≡ p.0 ∷ left reader.new)
         × (type_with p.0 (variants_of variants.now).type_ids
         (as_type_trees (variants_of variants.now).types) ≡ Some (type_of p.1.now))
-        × (p.0 < 256))
+        × (p.0 < 256)
+        × (IfDense is_sparse (HasValues (type_of p.1.now))
+        → HasPlain (Valid (type_of p.1.now))))
         (λ e. IsStuck (Unit {0})
         (IsChild (variants_of variants.now).type_ids
         (as_type_trees (variants_of variants.now).types))
@@ -355,6 +371,7 @@ fn variant_at<'a>(
 {
     let id = reader.first().ok_or(KeyDecodeError::Bad)?;
     let dtype = variant_with(variants, id).ok_or(KeyDecodeError::Bad)?;
+    expect_value(dtype, is_sparse)?;
     reader.advance(1);
     Ok((id, dtype))
 }

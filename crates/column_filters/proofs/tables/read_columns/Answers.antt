@@ -2,7 +2,9 @@
 use Rattle.std.proofs.Common.{◌≡◌, arith, length, map}
 use Rattle.std.proofs.lemmas.List.{length-map}
 use Rattle.vortex_dtype.specs.TypeOf.{type_of}
-use Rattle.column_filters.proofs.ColumnSteps.{read-more, read_typed, sound-more, table-fault-typed, table-refused}
+use Rattle.column_cells.proofs.TableSteps.{sound-more}
+use Rattle.column_filters.proofs.ColumnSteps.{read-more, read_typed, table-fault-typed, table-refused}
+use Rattle.column_filters.specs.Tables.{IsSoundAt}
 use Rattle.column_filters.specs.declared.errors.MaskError.TheVariants.{OutOfMemory}
 use Rattle.column_filters.proofs.tables.read_columns.Goals as goal
 
@@ -22,7 +24,7 @@ loop-place-preserved c =
     let here = c.loop-place-test.true in
     let read = read_typed c.args.types.now c.loop-place.place c.index-types-place.result _ _ _ (omega (arith, c.if-columns-types.false, here)) c.index-types-place.is c.in_ok-rows.ensures.read in (
       read-more c.args.columns.now _ c.args.count c.loop-place.place _ c.loop-place.table.items c.push_reserved.new.self.items _ here c.loop-place.invariant.0 c.in_ok-rows.ensures.read c.push_reserved.ensures.items,
-      sound-more c.args.columns.now (map type_of c.args.types.now) c.args.count c.loop-place.place _ _ here c.loop-place.invariant.1 read,
+      sound-more (IsSoundAt (map type_of c.args.types.now) c.args.count) c.args.columns.now c.loop-place.place _ here c.loop-place.invariant.1 read.sound,
       omega (arith, c.push_reserved.ensures.len, c.loop-place.invariant.2),
       omega (arith, c.push_reserved.ensures.capacity, c.loop-place.invariant.3),
     )

@@ -1,5 +1,5 @@
 -- The bytes of one row more.
-use Rattle.std.proofs.Common.{◌≡◌, ◌<◌, ◌∙◌, ap, arith, length, map, take}
+use Rattle.std.proofs.Common.{◌<◌, ◌∙◌, ap, arith, length, map}
 use Rattle.std.proofs.lemmas.List.{take_all}
 use Rattle.vortex_value.specs.Size.{capped}
 use Rattle.vortex_value.specs.Values.Content.{content}

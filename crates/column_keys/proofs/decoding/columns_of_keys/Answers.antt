@@ -1,5 +1,5 @@
 -- The types are those of the kinds, and the columns those of the rows.
-use Rattle.std.proofs.Common.{◌≡◌, ◌∙◌, ap, arith, length, map, subst, sym}
+use Rattle.std.proofs.Common.{◌∙◌, ap, arith, length, map, subst, sym}
 use Rattle.vortex_dtype.specs.TypeOf.{type_of}
 use Rattle.column_keys.specs.Cells.{AreRowsOf}
 use Rattle.column_keys.specs.Read.{AreWrittenIn, HaveCounts, HaveSpace}

@@ -1,6 +1,9 @@
 -- One column more, and the first error.
 use Rattle.std.proofs.Common.{arith}
-use Rattle.column_keys.proofs.ColumnSteps.{read-more, sound-more, table-fault, table-refused}
+use Rattle.arrow_columns.specs.Columns.{rows_in}
+use Rattle.column_cells.proofs.TableSteps.{sound-more}
+use Rattle.column_keys.proofs.ColumnSteps.{read-more, table-fault, table-refused}
+use Rattle.column_keys.specs.Tables.{IsSoundAt}
 use Rattle.column_keys.specs.declared.errors.TableError.TheVariants.{OutOfMemory}
 use Rattle.column_keys.proofs.key_columns.read_columns.Goals as goal
 
@@ -18,7 +21,7 @@ loop-place-preserved c =
     let counts = c.if-options-columns.false in
     let here = c.loop-place-test.true in (
       read-more c.args.columns.now c.args.options.now c.loop-place.place _ c.loop-place.table.items c.push_reserved.new.self.items _ here (omega (arith, here, counts)) c.loop-place.invariant.0 read c.push_reserved.ensures.items,
-      sound-more c.args.columns.now c.args.options.now c.loop-place.place _ _ here c.loop-place.invariant.1 read,
+      sound-more (IsSoundAt c.args.options.now (rows_in c.args.columns.now)) c.args.columns.now c.loop-place.place _ here c.loop-place.invariant.1 read.sound,
       omega (arith, c.push_reserved.ensures.len, c.loop-place.invariant.2),
       omega (arith, c.push_reserved.ensures.capacity, c.loop-place.invariant.3),
     )

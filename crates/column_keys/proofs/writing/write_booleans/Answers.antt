@@ -1,5 +1,5 @@
 -- One bit more.
-use Rattle.std.proofs.Common.{◌≡◌, ◌∙◌, arith, length, map}
+use Rattle.std.proofs.Common.{arith, map}
 use Rattle.vortex_value.specs.Values.Content.{content}
 use Rattle.vortex_value.specs.Values.Scalars.{scalar_content}
 use Rattle.column_keys.specs.Cells.{raws_in}

@@ -1,12 +1,11 @@
 -- One string more.
-use Rattle.std.proofs.Common.{◌≡◌, ◌≤◌, ◌+◌, ◌-◌, ◌++◌, ◌<◌, ◌∙◌, ℕ, List, [], ap, arith, length, map, refl, set, take, length-append}
+use Rattle.std.proofs.Common.{◌≡◌, ◌≤◌, ◌+◌, ◌-◌, ◌++◌, ◌<◌, ◌∙◌, [], ap, arith, length, map, refl, set, take, length-append}
 use Rattle.std.proofs.lemmas.List.{get_or-set_same, length-set}
 use Rattle.std.proofs.lemmas.Slice.{take-put_mid}
 use borrow.Rule.Slice.PartMut.{put_mid}
 use Rattle.vortex_value.specs.Values.Content.{content}
 use Rattle.vortex_value.specs.Values.Scalars.{scalar_content}
 use Rattle.column_keys.specs.Cells.{raws_in}
-use Rattle.column_keys.specs.Layout.{bytes_in, bytes_length}
 use Rattle.column_keys.proofs.RowsRead.{content-at, raws-count}
 use Rattle.column_keys.proofs.StringSteps.{length-fits, strings-done, strings-more, strings-none}
 use Rattle.column_keys.proofs.writing.write_strings.Goals as goal

@@ -2,7 +2,6 @@
 use Rattle.std.proofs.Common.{◌≤◌, ap, arith, length, map, subst, sym}
 use Rattle.std.specs.List.{All}
 use Rattle.arrow_columns.specs.Bitmaps.{bitmap_length}
-use Rattle.arrow_columns.specs.declared.kinds.Kind.TheVariants.{Boolean, Integer, Null}
 use Rattle.column_cells.specs.Types.{type_of_kind}
 use Rattle.vortex_value.specs.Validity.{Valid}
 use Rattle.vortex_value.specs.Values.Content.{content}

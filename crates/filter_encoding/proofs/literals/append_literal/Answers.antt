@@ -13,8 +13,8 @@ append_value-requires c = plain_ordered _ (subst (λ d. IsPlain (type_of d)) c.d
 pub returns-in_err-append_type : goal.returns-in_err-append_type
 returns-in_err-append_type c =
     let w = c.in_err-append_type.ensures in
-    passed_on _ (IsPlain (type_of c.dtype.result.now)) (IsPlainCell (cell_of c.args.literal.now)) _ _ _ _ _ c.from_residual.ensures (λ h. subst (λ d. IsPlain (type_of d)) (sym c.dtype.ensures) h) w.0 w.1
+    passed_on _ (IsPlain (type_of c.dtype.result.now)) (IsPlainCell (cell_of c.args.literal.now)) _ _ _ _ _ c.from_residual.ensures (λ h. subst (λ d. IsPlain (type_of d)) (sym c.dtype.ensures) h.plain) w.0 w.1
 
 pub returns : goal.returns
 returns c =
-    key_written (cell_of c.args.literal.now) (type_of c.dtype.result.now) c.append_value.result _ _ _ (ap type_of (sym c.dtype.ensures)) c.in_ok-append_type.ensures c.append_value.ensures.appended c.append_value.ensures.held c.append_value.ensures.refused c.append_value.ensures.unchanged
+    key_written (cell_of c.args.literal.now) (type_of c.dtype.result.now) c.append_value.result _ _ _ (ap type_of (sym c.dtype.ensures)) c.in_ok-append_type.ensures c.append_value.ensures.appended c.append_value.ensures.held c.append_value.ensures.untyped c.append_value.ensures.refused c.append_value.ensures.unchanged

@@ -1,7 +1,7 @@
 -- The first byte, and then the parts.
 use Rattle.std.proofs.Common.{suc, ◌≡◌, ◌-◌, arith}
 use Rattle.vortex_filter.specs.Formula.{formula}
-use Rattle.vortex_filter.proofs.Steps.{formula-And, formula-Constant, formula-Not, formula-Or}
+use Rattle.vortex_filter.proofs.Steps.{formula-Constant}
 use Rattle.filter_encoding.specs.Encoding.{node_bytes}
 use Rattle.filter_encoding.specs.Steps.{IsNode}
 use Rattle.filter_encoding.specs.declared.heads.Head.TheVariants.{Constant, Compare, IsNull, In, Between, StartsWith, And, Or, Not}
@@ -56,14 +56,14 @@ read_node-returns-in_err-inner-in-Not-clause-read t c =
 pub read_node-returns-in_ok-left-in-And-clause-read : goal.read_node-returns-in_ok-left-in-And-clause-read
 read_node-returns-in_ok-left-in-And-clause-read t c =
     let deep : c.args.depth ≡ suc (c.args.depth - 1) = omega (arith, (begun c.args.depth _ And _ _ c.in-And.is c.in_ok-head.ensures).1) in
-    both_read c.args.depth (c.args.depth - 1) (formula c.in_ok-left-in-And.left.value) (formula c.in_ok-left-in-And.right.value) _ _ _ _ deep (formula-And c.in_ok-left-in-And.left c.in_ok-left-in-And.right) (begun c.args.depth _ And _ _ c.in-And.is c.in_ok-head.ensures).0 c.in_ok-left-in-And.ensures.read.0 c.in_ok-left-in-And.ensures.read.1
+    both_read c.args.depth (c.args.depth - 1) (formula c.in_ok-left-in-And.left.value) (formula c.in_ok-left-in-And.right.value) _ _ _ _ deep c.both.ensures.made (begun c.args.depth _ And _ _ c.in-And.is c.in_ok-head.ensures).0 c.in_ok-left-in-And.ensures.read.0 c.in_ok-left-in-And.ensures.read.1
 
 pub read_node-returns-in_ok-one-in-Or-clause-read : goal.read_node-returns-in_ok-one-in-Or-clause-read
 read_node-returns-in_ok-one-in-Or-clause-read t c =
     let deep : c.args.depth ≡ suc (c.args.depth - 1) = omega (arith, (begun c.args.depth _ Or _ _ c.in-Or.is c.in_ok-head.ensures).1) in
-    either_read c.args.depth (c.args.depth - 1) (formula c.in_ok-one-in-Or.one.value) (formula c.in_ok-one-in-Or.other.value) _ _ _ _ deep (formula-Or c.in_ok-one-in-Or.one c.in_ok-one-in-Or.other) (begun c.args.depth _ Or _ _ c.in-Or.is c.in_ok-head.ensures).0 c.in_ok-one-in-Or.ensures.read.0 c.in_ok-one-in-Or.ensures.read.1
+    either_read c.args.depth (c.args.depth - 1) (formula c.in_ok-one-in-Or.one.value) (formula c.in_ok-one-in-Or.other.value) _ _ _ _ deep c.either.ensures.made (begun c.args.depth _ Or _ _ c.in-Or.is c.in_ok-head.ensures).0 c.in_ok-one-in-Or.ensures.read.0 c.in_ok-one-in-Or.ensures.read.1
 
 pub read_node-returns-in_ok-inner-in-Not-clause-read : goal.read_node-returns-in_ok-inner-in-Not-clause-read
 read_node-returns-in_ok-inner-in-Not-clause-read t c =
     let deep : c.args.depth ≡ suc (c.args.depth - 1) = omega (arith, (begun c.args.depth _ Not _ _ c.in-Not.is c.in_ok-head.ensures).1) in
-    negation_read c.args.depth (c.args.depth - 1) (formula c.in_ok-inner-in-Not.inner.value) _ _ _ _ deep (formula-Not c.in_ok-inner-in-Not.inner) (begun c.args.depth _ Not _ _ c.in-Not.is c.in_ok-head.ensures).0 c.in_ok-inner-in-Not.ensures.read
+    negation_read c.args.depth (c.args.depth - 1) (formula c.in_ok-inner-in-Not.inner.value) _ _ _ _ deep c.negation.ensures.made (begun c.args.depth _ Not _ _ c.in-Not.is c.in_ok-head.ensures).0 c.in_ok-inner-in-Not.ensures.read

@@ -1,7 +1,6 @@
-use Rattle.std.proofs.Common.{◌≡◌, ◌∙◌, ℕ, None, Some, List, Option, ℤ, pos, ap, subst, arith, w64, to_z, of_z}
+use Rattle.std.proofs.Common.{◌≡◌, ◌∙◌, ℕ, None, Some, Option, ℤ, pos, ap, subst, arith, w64, to_z, of_z}
 use Rattle.std.proofs.lemmas.Int.{ints}
 use Rattle.jiff_fmt.specs.Text.{time_text}
-use Rattle.jiff_fmt.specs.Printer.{options}
 use Rattle.logical_types.specs.Clock.{IsTimeWord, time_written}
 use Rattle.logical_types.proofs.ClockWords.{time_reads}
 use Rattle.logical_types.proofs.clock.word_of_time.Goals as goal

@@ -1,4 +1,4 @@
-use Rattle.std.proofs.Common.{◌≡◌, ◌<◌, arith, ap, length}
+use Rattle.std.proofs.Common.{◌≡◌, arith, ap, length}
 use Rattle.logical_types.specs.Extensions.{IsExtension}
 use Rattle.logical_types.specs.declared.logical.LogicalType.{LogicalType}
 use Rattle.logical_types.proofs.NamesBack.{by_list}

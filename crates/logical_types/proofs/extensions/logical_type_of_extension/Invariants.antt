@@ -1,4 +1,4 @@
-use Rattle.std.proofs.Common.{◌≡◌, ◌<◌, ℕ, get_or}
+use Rattle.std.proofs.Common.{◌<◌, ℕ, get_or}
 use Rattle.logical_types.specs.Extensions.{IsExtension}
 use Rattle.logical_types.specs.Names.{plain_types}
 use Rattle.logical_types.specs.declared.logical.LogicalType.TheVariants.{Float64}

@@ -1,4 +1,4 @@
-use Rattle.std.proofs.Common.{◌≡◌, ◌≢◌, ◌<◌, arith}
+use Rattle.std.proofs.Common.{arith}
 use Rattle.logical_types.proofs.NamesBack.{next_precision}
 use Rattle.logical_types.proofs.names.decimal_named.Goals as goal
 

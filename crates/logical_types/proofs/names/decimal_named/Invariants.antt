@@ -1,4 +1,4 @@
-use Rattle.std.proofs.Common.{◌≡◌, ◌≢◌, ◌<◌}
+use Rattle.std.proofs.Common.{◌≢◌, ◌<◌}
 use Rattle.logical_types.specs.Names.{decimal_name}
 use Rattle.logical_types.specs.declared.logical.DecimalType.{DecimalType}
 use Rattle.logical_types.proofs.names.decimal_named.Given as goal

@@ -1,4 +1,4 @@
-use Rattle.std.proofs.Common.{◌≡◌, ◌≢◌, ◌∙◌, ◌<◌, sym, arith}
+use Rattle.std.proofs.Common.{◌≡◌, ◌≢◌, ◌∙◌, sym, arith}
 use lib.Pointwise.{bytes_decides}
 use mathlib.Core.Bool.{true≢false}
 use Rattle.logical_types.specs.Names.{decimal_name}

@@ -1,4 +1,4 @@
-use Rattle.std.proofs.Common.{◌≡◌, ◌<◌, arith}
+use Rattle.std.proofs.Common.{◌≡◌, arith}
 use Rattle.logical_types.specs.Names.{name_of}
 use Rattle.logical_types.specs.declared.logical.LogicalType.{LogicalType}
 use Rattle.logical_types.proofs.NamesBack.{by_list}

@@ -1,4 +1,4 @@
-use Rattle.std.proofs.Common.{◌≡◌, ◌≢◌, ◌<◌, ℕ, get_or}
+use Rattle.std.proofs.Common.{◌≢◌, ◌<◌, ℕ, get_or}
 use Rattle.logical_types.specs.Names.{name_of, plain_types}
 use Rattle.logical_types.specs.declared.logical.LogicalType.TheVariants.{Float64}
 use Rattle.logical_types.proofs.names.logical_type_named.Given as goal

@@ -1,7 +1,6 @@
 -- A column more, and all of them.
-use Rattle.std.proofs.Common.{◌≡◌, ◌<◌, ◌∙◌, ◌∷◌, [], List, ap, append-nil, append_assoc, arith, length, length-append, rules, subst, sym}
+use Rattle.std.proofs.Common.{◌≡◌, ◌<◌, ◌∙◌, ◌∷◌, [], ap, append_assoc, arith, length, length-append, rules, sym}
 use Rattle.std.specs.Vec.Iter.{into_iter_items}
-use Rattle.vortex_statistics.specs.declared.column_statistics.ColumnStatistics.{ColumnStatistics}
 use Rattle.record_search.proofs.ObserveLaws.{columns_done, encoding_more, no_encodings, nothing_left}
 use Rattle.record_search.proofs.describing.encodings_of.Goals as goal
 

@@ -1,5 +1,5 @@
 -- One mark more; the name with those so far is one of these.
-use Rattle.std.proofs.Common.{◌≡◌, inl, inr, rules}
+use Rattle.std.proofs.Common.{inl, inr, rules}
 use Rattle.std.specs.Prelude.{string_bytes}
 use Rattle.zone_map.specs.Names.{texts}
 use Rattle.zone_map.proofs.Naming.{one_more_mark}

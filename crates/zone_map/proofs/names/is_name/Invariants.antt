@@ -1,5 +1,5 @@
 -- No byte so far is a line feed.
-use Rattle.std.proofs.Common.{◌≡◌, ◌≢◌, ◌<◌, ℕ, get_or}
+use Rattle.std.proofs.Common.{◌≢◌, ◌<◌, ℕ, get_or}
 use Rattle.zone_map.proofs.names.is_name.Given as goal
 
 abbrev pub invariant-loop-byte : goal.invariant-loop-byte

@@ -1,5 +1,5 @@
 -- A name that was made is one, and is given nowhere.
-use Rattle.std.proofs.Common.{◌≡◌, ◌∙◌, ap, rules, sym, subst}
+use Rattle.std.proofs.Common.{sym, subst}
 use Rattle.std.specs.Prelude.{string_bytes}
 use Rattle.zone_map.specs.Names.{IsName}
 use Rattle.zone_map.proofs.Naming.{made_up_is_name, marked_is_name}

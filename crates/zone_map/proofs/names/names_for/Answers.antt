@@ -1,11 +1,10 @@
 -- One name more.
-use Rattle.std.proofs.Common.{◌≡◌, ◌∙◌, ◌++◌, ◌∷◌, [], List, ℕ, ap, rules, sym, subst, length, get_or, arith}
+use Rattle.std.proofs.Common.{[], List, rules, sym, subst, get_or}
 use Rattle.std.specs.Prelude.{Contains, string_bytes}
 use Rattle.std.specs.declared.string.String.{String}
 use Rattle.std.specs.Global.{Global}
-use Rattle.std.proofs.lemmas.List.{length-map, map-append}
 use Rattle.zone_map.specs.Names.{texts}
-use Rattle.zone_map.proofs.Naming.{IsNaming, naming_begun, naming_next}
+use Rattle.zone_map.proofs.Naming.{naming_begun, naming_next}
 use Rattle.zone_map.proofs.names.names_for.Goals as goal
 
 pub loop-place-init : goal.loop-place-init

@@ -1,5 +1,5 @@
 -- The name at hand is the one at its place.
-use Rattle.std.proofs.Common.{◌≡◌, ◌≢◌, ◌<◌, ◌∙◌, ℕ, sym, ap, get_or, arith, eqb, below_more}
+use Rattle.std.proofs.Common.{◌≡◌, ◌∙◌, sym, ap, arith, below_more}
 use Rattle.std.specs.Prelude.{string_bytes}
 use Rattle.std.proofs.lemmas.Bool.Decides.{Decides-eqb}
 use Rattle.std.proofs.lemmas.List.{get_or-map, length-map}

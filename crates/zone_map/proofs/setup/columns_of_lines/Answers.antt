@@ -1,5 +1,5 @@
 -- Each line is that of the next column.
-use Rattle.std.proofs.Common.{◌≡◌, ◌∙◌, ◌++◌, List, ℕ, ap, sym, subst, rules, arith, length, None, Some}
+use Rattle.std.proofs.Common.{◌≡◌, ◌∙◌, ◌++◌, List, ap, sym, subst, rules, arith, length, None, Some}
 use Rattle.std.proofs.lemmas.List.{append-nil}
 use Rattle.std.proofs.lemmas.Str.Pattern.{split_after}
 use Rattle.zone_map.specs.Setups.{ColumnValue, column_lines, column_values}

@@ -1,5 +1,5 @@
 -- The text is cut behind the number, whose digits are no blank.
-use Rattle.std.proofs.Common.{◌≡◌, ◌∙◌, List, ℕ, arith, Some, None}
+use Rattle.std.proofs.Common.{arith, Some, None}
 use Rattle.std.specs.Fmt.{decimal}
 use Rattle.std.proofs.lemmas.Fmt.{parse-decimal}
 use Rattle.std.proofs.lemmas.Str.Pattern.{split_after}

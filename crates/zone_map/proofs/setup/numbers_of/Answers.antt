@@ -1,5 +1,5 @@
 -- Each number is the next one of the line.
-use Rattle.std.proofs.Common.{◌≡◌, ◌∙◌, List, ℕ, arith, cond, rules}
+use Rattle.std.proofs.Common.{arith, cond}
 use Rattle.std.proofs.lemmas.Fmt.{parse-decimal}
 use Rattle.zone_map.proofs.Clear.{err_is_not, ok_same, one_is_digit, same_numbers, some_same}
 use Rattle.zone_map.proofs.setup.numbers_of.Goals as goal

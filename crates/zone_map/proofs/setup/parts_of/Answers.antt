@@ -1,5 +1,5 @@
 -- The first line is that of the numbers.
-use Rattle.std.proofs.Common.{◌≡◌, ◌∙◌, List, ℕ, arith, None, Some, rules}
+use Rattle.std.proofs.Common.{◌∙◌, arith, None, Some}
 use Rattle.std.proofs.lemmas.Str.Pattern.{split_after}
 use Rattle.zone_map.specs.Setups.{column_lines, numbers_text}
 use Rattle.zone_map.proofs.Clear.{none_is_not, numbers_lack_feed, some_same}

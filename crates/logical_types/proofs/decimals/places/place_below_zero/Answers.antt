@@ -1,4 +1,4 @@
-use Rattle.std.proofs.Common.{◌≡◌, ◌+◌, ◌-◌, ◌*◌, ◌/◌, ◌%◌, ◌<◌, ◌≤◌, arith, ℕ, ℤ, pos, neg_ℤ, ◌-ℤ◌, to_z, of_z}
+use Rattle.std.proofs.Common.{◌≡◌, ◌+◌, ◌-◌, ◌*◌, ◌/◌, ◌%◌, ◌<◌, ◌≤◌, arith, pos, neg_ℤ, ◌-ℤ◌, to_z, of_z}
 use Rattle.std.proofs.Math.Nat.{div-add-mod, mod-lt}
 use mir.Syntax.{w128}
 use Rattle.std.proofs.lemmas.Int.{ints}

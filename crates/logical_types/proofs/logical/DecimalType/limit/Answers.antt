@@ -1,4 +1,4 @@
-use Rattle.std.proofs.Common.{◌∙◌, ◌≤◌, ◌<◌, ◌^◌, arith}
+use Rattle.std.proofs.Common.{arith}
 use Rattle.logical_types.proofs.DecimalsBack.{limit_small, limit_some}
 use Rattle.logical_types.proofs.logical.DecimalType.limit.Goals as goal
 
