@@ -16,7 +16,7 @@ use Rattle.filter_sql.specs.ColumnNames.{ColumnTree, column_named, column_there,
 use Rattle.vortex_filter.specs.Formula.{Formula, negation, null_test, prefix_test}
 use Rattle.filter_sql.specs.Grammar.{IsPredicate, says_true, says_false, says_null, on_column, prefix_call, IsFilter, predicate, group, not_filter, one_operand, and_filter, one_conjunction, or_filter}
 use Rattle.vortex_filter.specs.Literals.{LiteralTree, null_literal, truth_literal, number_literal, text_literal, bytes_literal, bytes_cell, bytes_in, null_cell, number_cell, number_in, number_position, position_of, text_cell, text_in, truth_cell, truth_in}
-use Rattle.vortex_filter.specs.Positions.{PositionTree, exactly, lacking, comparison_of, member_among, prefix_of, range_of}
+use Rattle.vortex_filter.specs.Positions.{PositionTree, exactly, just_above, lacking, comparison_of, member_among, prefix_of, range_of}
 use Rattle.filter_sql.specs.Literals.{Condition, compared, missing, listed, between, begun, denied, formula_in, positions_of}
 use Rattle.filter_sql.specs.Parsing.{types_of, AllOrdered}
 use Rattle.filter_sql.specs.Tokens.{TokenTree}
@@ -99,6 +99,7 @@ strings_held _ e = absurd cc
 module _ (types : List TypeTree) (k : ℕ) (t : TypeTree) (there : slice_get types k ≡ Some t) (ordered : HasNoVariant t) where
   prefixed_fits : (p : PositionTree) (f : Formula) → HoldsStrings t → CellFits t p → prefix_of k p ≡ Some f → FitsColumns types f
   prefixed_fits (exactly x) f strings fits e = let same : prefix_test k x ≡ f = cc in subst (FitsColumns types) same (prefix_fits types k t there ordered x strings fits)
+  prefixed_fits (just_above x) f strings fits e = absurd cc
   prefixed_fits (lacking o) f strings fits e = absurd cc
 
   -- what is written of a column fits it

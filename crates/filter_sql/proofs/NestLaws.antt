@@ -4,12 +4,12 @@ use Rattle.std.specs.Prelude.{option_and_then, option_map}
 use Rattle.vortex_dtype.specs.TypeTree.{TypeTree}
 use Rattle.vortex_cells.specs.Cells.{Cell}
 use Rattle.vortex_filter.specs.declared.operator.CompareOperator.{CompareOperator}
-use Rattle.vortex_filter.specs.declared.operator.CompareOperator.TheVariants.{Gte, Lte}
+use Rattle.vortex_filter.specs.declared.operator.CompareOperator.TheVariants.{Eq, NotEq, Gt, Gte, Lt, Lte}
 use Rattle.vortex_filter.specs.CheckSteps.{holds_strings}
 use Rattle.vortex_filter.specs.Formula.{Formula, both, either, negation, null_test, prefix_test}
 use Rattle.vortex_filter.specs.Literals.{LiteralTree, position_of, text_literal}
 use Rattle.vortex_filter.specs.Operators.{holds}
-use Rattle.vortex_filter.specs.Positions.{PositionTree, exactly, lacking, cells_of, comparison_of, for_values, member_among, member_of, prefix_of, range_of}
+use Rattle.vortex_filter.specs.Positions.{PositionTree, exactly, just_above, lacking, cells_of, comparison_above, comparison_of, for_values, member_among, member_of, prefix_of, range_of}
 use Rattle.filter_sql.specs.declared.print.Level.{Level}
 use Rattle.filter_sql.specs.declared.print.Level.TheVariants as levels
 use Rattle.filter_sql.specs.declared.token.Keyword.TheVariants as keywords
@@ -39,8 +39,17 @@ lacking-height : (k : ℕ) (b : Bool) → height (for_values b k) ≤ 2
 lacking-height k true = omega arith
 lacking-height k false = omega arith
 
+above-height : (k : ℕ) (op : CompareOperator) (x : Cell) → height (comparison_above k op x) ≤ 2
+above-height k Eq x = lacking-height k false
+above-height k NotEq x = lacking-height k true
+above-height k Gt x = omega arith
+above-height k Gte x = omega arith
+above-height k Lt x = omega arith
+above-height k Lte x = omega arith
+
 comparison-height : (k : ℕ) (op : CompareOperator) (p : PositionTree) → height (comparison_of k op p) ≤ 2
 comparison-height k op (exactly x) = omega arith
+comparison-height k op (just_above x) = above-height k op x
 comparison-height k op (lacking o) = lacking-height k (holds op o)
 
 halves-height : (k : ℕ) (lower upper : PositionTree) → height (both (comparison_of k Gte lower) (comparison_of k Lte upper)) ≤ 3
@@ -51,8 +60,13 @@ halves-height k lower upper =
 
 range-height : (k : ℕ) (lower upper : PositionTree) → height (range_of k lower upper) ≤ 3
 range-height k (exactly x) (exactly y) = omega arith
+range-height k (exactly x) (just_above y) = halves-height k (exactly x) (just_above y)
 range-height k (exactly x) (lacking o) = halves-height k (exactly x) (lacking o)
+range-height k (just_above x) (exactly y) = halves-height k (just_above x) (exactly y)
+range-height k (just_above x) (just_above y) = halves-height k (just_above x) (just_above y)
+range-height k (just_above x) (lacking o) = halves-height k (just_above x) (lacking o)
 range-height k (lacking o) (exactly y) = halves-height k (lacking o) (exactly y)
+range-height k (lacking o) (just_above y) = halves-height k (lacking o) (just_above y)
 range-height k (lacking o) (lacking r) = halves-height k (lacking o) (lacking r)
 
 member-height : (k : ℕ) (xs : List Cell) → height (member_of k xs) ≤ 1
@@ -65,6 +79,7 @@ among-height k (p ∷ ps) = member-height k (cells_of (p ∷ ps))
 
 prefix-height : (k : ℕ) (p : PositionTree) (f : Formula) → prefix_of k p ≡ Some f → height f ≤ 0
 prefix-height k (exactly x) f e = let same : prefix_test k x ≡ f = cc in subst (λ (g : Formula). height g ≤ 0) same (omega arith)
+prefix-height k (just_above x) f e = absurd cc
 prefix-height k (lacking o) f e = absurd cc
 
 begun-height : (k : ℕ) (t : TypeTree) (l : LiteralTree) (f : Formula) → formula_in k t (begun l) ≡ Some f → height f ≤ 0

@@ -12,7 +12,7 @@ use Rattle.filter_sql.specs.ColumnNames.{ColumnTree, column_named}
 use Rattle.vortex_filter.specs.CheckSteps.{holds_strings}
 use Rattle.vortex_filter.specs.Formula.{Formula, null_test, membership, negation}
 use Rattle.vortex_filter.specs.Literals.{LiteralTree, position_of, text_in, text_literal}
-use Rattle.vortex_filter.specs.Positions.{PositionTree, exactly, lacking, cells_of, comparison_of, member_among, member_of, prefix_of, range_of}
+use Rattle.vortex_filter.specs.Positions.{PositionTree, exactly, just_above, lacking, cells_of, comparison_of, member_among, member_of, prefix_of, range_of}
 use Rattle.filter_sql.specs.Literals.{Condition, begun, formula_in, literal_of, pattern_prefix, positions_of}
 use Rattle.filter_sql.specs.Grammar.{AreLiterals, one_literal, more_literals, IsTest, in_nothing, in_literals, between_literals, like_pattern, like_escaped, IsCondition, compares, is_null, is_not_null, bare_test, not_test, IsPredicate, says_true, says_false, says_null, on_column, prefix_call}
 use Rattle.filter_sql.specs.Tokens.{TokenTree, keyword_token, name_token, integer_token, string_token, bytes_token, operator_token, opening, closing, comma, verbatim}
@@ -43,6 +43,7 @@ literals_not_closing (more_literals {x} {l} {ts} said more) rest = not_closing x
 
 pub cells_front : (p : PositionTree) (ps : List PositionTree) → cells_of (p ∷ []) ++ cells_of ps ≡ cells_of (p ∷ ps)
 cells_front (exactly x) ps = refl
+cells_front (just_above x) ps = refl
 cells_front (lacking o) ps = refl
 
 one_closed : (t : TypeTree) (x : TokenTree) (p : PositionTree) (rest : List TokenTree) → token_position t x ≡ Some p → cells_at t (x ∷ closing ∷ rest) ≡ Some (cells_of (p ∷ []), rest)

@@ -27,7 +27,7 @@ use Rattle.vortex_filter.specs.Checking.{AllFit, IsOfType, Test, tests}
 use Rattle.vortex_filter.specs.Coercing.{by_column, coerced, coerced_cell, lacks, lacks_number, position_in, side}
 use Rattle.vortex_filter.specs.Formula.{Formula, constant, comparison, null_test, membership, range, prefix_test, both, either, negation, cell_at, compare_truth, member_truth, order_truth, truth}
 use Rattle.vortex_filter.specs.Operators.{holds}
-use Rattle.vortex_filter.specs.Positions.{PositionTree, exactly, lacking, cells_of, comparison_of, for_values, member_among, member_of, range_of}
+use Rattle.vortex_filter.specs.Positions.{PositionTree, exactly, just_above, lacking, cells_of, comparison_of, for_values, member_among, member_of, range_of}
 use Rattle.vortex_filter.specs.Prefixes.{begins, begins_truth, prefix_truth}
 use Rattle.vortex_filter.specs.Rows.{IsCellOf, IsRowOf, content_truth, untyped_cell}
 use Rattle.vortex_filter.specs.Truths.{truth_and, truth_not, truth_of, truth_or}
@@ -199,11 +199,11 @@ lacking_says op t c x l o n = apart op t x.typed x.content c.typed c.content (la
 
 -- ---- the filter for values and nulls
 
-settled_null : (b : Bool) (k : ℕ) (row : List Cell) → is_null_cell (cell_at row k) ≡ true → truth (for_values b k) row ≡ Unknown
+pub settled_null : (b : Bool) (k : ℕ) (row : List Cell) → is_null_cell (cell_at row k) ≡ true → truth (for_values b k) row ≡ Unknown
 settled_null true k row n = ap (λ c. truth_or (truth_not (truth_of c)) Unknown) n
 settled_null false k row n = ap (λ c. truth_and (truth_of c) Unknown) n
 
-settled_value : (b : Bool) (k : ℕ) (row : List Cell) → is_null_cell (cell_at row k) ≡ false → truth (for_values b k) row ≡ truth_of b
+pub settled_value : (b : Bool) (k : ℕ) (row : List Cell) → is_null_cell (cell_at row k) ≡ false → truth (for_values b k) row ≡ truth_of b
 settled_value true k row n = ap (λ c. truth_or (truth_not (truth_of c)) Unknown) n
 settled_value false k row n = ap (λ c. truth_and (truth_of c) Unknown) n
 
@@ -233,8 +233,13 @@ comparison_truth nullable t op k x row m = by_test (lacks t x) refl
 -- a range is two comparisons
 halves_truth : (k : ℕ) (p q : PositionTree) (row : List Cell) → truth (range_of k p q) row ≡ truth_and (truth (comparison_of k Gte p) row) (truth (comparison_of k Lte q) row)
 halves_truth k (exactly x) (exactly y) row = refl
+halves_truth k (exactly x) (just_above y) row = refl
 halves_truth k (exactly x) (lacking o) row = refl
+halves_truth k (just_above x) (exactly y) row = refl
+halves_truth k (just_above x) (just_above y) row = refl
+halves_truth k (just_above x) (lacking o) row = refl
 halves_truth k (lacking o) (exactly y) row = refl
+halves_truth k (lacking o) (just_above y) row = refl
 halves_truth k (lacking o) (lacking r) row = refl
 
 range_truth_is : NullableIsSame → (t : TypeTree) (k : ℕ) (x y : Cell) (row : List Cell) → MayStandIn t (cell_at row k)

@@ -36,21 +36,23 @@ use Rattle.vortex_filter.specs.declared.filter.Filter.{Filter, Constant, IsNull,
 use Rattle.vortex_filter.specs.declared.literals.Position.{Position}
 use Rattle.vortex_filter.specs.declared.literals.Position.TheVariants.{Exactly, Lacking}
 use Rattle.vortex_filter.specs.declared.operator.CompareOperator.{CompareOperator}
+use Rattle.vortex_filter.specs.declared.operator.CompareOperator.TheVariants.{Gte, Lte}
 use Rattle.vortex_filter.specs.declared.truth.Truth.{Truth}
 use Rattle.vortex_filter.specs.CheckSteps.{answer_behind, behind, holds_strings}
 use Rattle.vortex_filter.specs.Checking.{AllFit, Demand, FitsColumns, IsOrderedFor, RefusesFirst, Suits, Test, asks, beginning, comparing, nothing, tests}
 use Rattle.vortex_filter.specs.Coerces.{Coerces, CoercesLiteral, CoercesLiterals, CoercesTest, GivesOrdered, RefusesLiterals, StandsAt, integer_in, lacking_of, lacking_order, number_in, number_lacking}
-use Rattle.vortex_filter.specs.Coercing.{IsCoercible, by_column, coerced, coerced_cell, lacks, lacks_number, position_in, side}
+use Rattle.vortex_filter.specs.Coercing.{IsCoercible, KeepsValue, by_column, coerced, coerced_cell, lacks, lacks_number, position_in, side}
+use Rattle.vortex_filter.specs.Extensions.{reinterprets}
 use Rattle.vortex_filter.specs.Formula.{Formula, constant, comparison, null_test, membership, range, prefix_test, both, either, negation, formula, truth}
 use Rattle.vortex_filter.specs.FilterLiterals.{AreValid, exactly_of, literal_tests, literals_of}
 use Rattle.vortex_filter.specs.Makes.{Makes, OfParts}
-use Rattle.vortex_filter.specs.Positions.{PositionTree, exactly, lacking, cells_of, comparison_of, member_among, member_of, position_tree, prefix_of, range_of, scalars_of}
+use Rattle.vortex_filter.specs.Positions.{PositionTree, exactly, just_above, lacking, cells_of, compared_scalars, comparison_of, member_among, member_of, position_tree, prefix_of, range_of, scalars_of}
 use Rattle.vortex_filter.specs.Rows.{IsRowOf, content_truth}
 use Rattle.vortex_cells.specs.Variants.{has_variant}
 use Rattle.vortex_filter.proofs.CheckLaws.{fit_both, fit_one, not_both, refuses_behind, refuses_front, refuses_one, strings_test}
 use Rattle.vortex_filter.proofs.CoerceLaws.{NullableIsSame, coerced_fits, coerced_truth}
 use Rattle.vortex_filter.proofs.FitProofs.{coerced_itself, fitting_position}
-use Rattle.vortex_filter.proofs.LiteralSteps.{constant_valid, copy_valid, literals-And, literals-Between, literals-Compare, literals-Constant, literals-In, literals-IsNull, literals-Not, literals-Or, literals-StartsWith, valid_left, valid_right, valid_same, valid_with}
+use Rattle.vortex_filter.proofs.LiteralSteps.{constant_valid, copy_valid, literals-And, literals-Between, literals-Compare, literals-Constant, literals-In, literals-IsNull, literals-Not, literals-Or, literals-StartsWith, valid_compared, valid_left, valid_right, valid_same, valid_with}
 use Rattle.vortex_filter.proofs.Steps.{formula-And, formula-Between, formula-Compare, formula-Constant, formula-In, formula-IsNull, formula-Not, formula-Or, formula-StartsWith}
 use Rattle.vortex_filter.proofs.TestSteps.{coercible_columns, count_is, fitting_coercible, tests-And, tests-Between, tests-Compare, tests-Constant, tests-In, tests-IsNull, tests-Not, tests-Or, tests-StartsWith}
 use Rattle.vortex_cells.proofs.VariantSteps.{none-from_test, test-from_none}
@@ -245,17 +247,20 @@ module _ (t : TypeTree) (k : ℕ) (l : Scalar) where
   pub has_literal : same_type t (scalar_type l) ≡ false → None ≡ lacking_order t (scalar_type l) (scalar_content l) → lacks t (cell_of l) ≡ false
   has_literal e q = lacks_other e ∙ had_by is_lacked (side (scalar_content l)) q
 
-  never_other : same_type t (scalar_type l) ≡ false → (IsValid l → ¬ ((lacks t (cell_of l) ≡ true) ⊎ CanCast (scalar_type l) (as_nullable t) (scalar_content l))) → ¬ (IsCoercible t l)
+  never_other : same_type t (scalar_type l) ≡ false → (IsValid l → ¬ ((lacks t (cell_of l) ≡ true) ⊎ KeepsValue t l)) → ¬ (IsCoercible t l)
   never_other e n (inl s) = false≢true (sym e ∙ (same_type-Decides t (scalar_type l)).1 s)
   never_other e n (inr c) = n c.0 c.1
 
   pub invalid_stands : (b : Bool) → same_type t (scalar_type l) ≡ false → IsTrue b ↔ IsValid l → b ≡ false → CoercesLiteral t l k (Err (TypesDiffer 0 k))
   invalid_stands b s h e = inr (refl, never_other s (λ v c. false≢true (sym e ∙ h.1 v)))
 
-  pub cast_made : (u : TypeTree) (y : Scalar) → IsValid l → u ≡ as_nullable t → same_type t (scalar_type l) ≡ false → lacks t (cell_of l) ≡ false → AnswersCast (scalar_type l) u (scalar_raw l) (Ok y) → CoercesLiteral t l k (Ok (Exactly y))
-  cast_made u y v q e m a = (
+  abbrev Keeps : Type 0
+  Keeps = reinterprets (scalar_type l) t (scalar_content l) ≡ false
+
+  pub cast_made : (u : TypeTree) (y : Scalar) → IsValid l → u ≡ as_nullable t → same_type t (scalar_type l) ≡ false → lacks t (cell_of l) ≡ false → Keeps → AnswersCast (scalar_type l) u (scalar_raw l) (Ok y) → CoercesLiteral t l k (Ok (Exactly y))
+  cast_made u y v q e m kept a = (
     ap exactly (ap₂ cell_from (a.one.typed ∙ q) a.one.same ∙ sym (ap (λ b. cond b (cell_of l) (cell_from (as_nullable t) (scalar_content l))) e)) ∙ sym (stands_by false m),
-    inr (v, inr (subst (λ s. CanCast (scalar_type l) s (scalar_content l)) q a.succeeds_only)),
+    inr (v, inr (kept, subst (λ s. CanCast (scalar_type l) s (scalar_content l)) q a.succeeds_only)),
     λ v. (a.one.valid, tt),
   )
 
@@ -264,17 +269,21 @@ module _ (t : TypeTree) (k : ℕ) (l : Scalar) where
   not_possible u p why.OutOfMemory n h = absurd (n refl)
   not_possible u p _ n h = absurd h
 
-  no_cast : lacks t (cell_of l) ≡ false → ¬ (CanCast (scalar_type l) (as_nullable t) (scalar_content l)) → ¬ ((lacks t (cell_of l) ≡ true) ⊎ CanCast (scalar_type l) (as_nullable t) (scalar_content l))
+  no_cast : lacks t (cell_of l) ≡ false → ¬ (KeepsValue t l) → ¬ ((lacks t (cell_of l) ≡ true) ⊎ KeepsValue t l)
   no_cast h n (inl m) = false≢true (sym h ∙ m)
   no_cast h n (inr c) = n c
+
+  -- a cast that takes a storage for a value is none
+  pub cast_reinterprets : (b : Bool) → same_type t (scalar_type l) ≡ false → lacks t (cell_of l) ≡ false → b ≡ reinterprets (scalar_type l) t (scalar_content l) → b ≡ true → CoercesLiteral t l k (Err (TypesDiffer 0 k))
+  cast_reinterprets b s h e i = inr (refl, never_other s (λ v. no_cast h (λ c. false≢true (sym c.0 ∙ sym e ∙ i))))
 
   pub cast_refused : (u : TypeTree) (e : VortexError) (d : FilterError) → u ≡ as_nullable t → same_type t (scalar_type l) ≡ false → lacks t (cell_of l) ≡ false → AnswersCast (scalar_type l) u (scalar_raw l) (Err e)
       → ((e ≡ why.OutOfMemory) × (d ≡ OutOfMemory)) ⊎ ((e ≢ why.OutOfMemory) × (d ≡ TypesDiffer 0 k)) → CoercesLiteral t l k (Err d)
   cast_refused u e d q s h a (inl m) = inl m.1
   cast_refused u e d q s h a (inr m) =
-      inr (m.1, never_other s (λ v. no_cast h (subst (λ w. ¬ (CanCast (scalar_type l) w (scalar_content l))) q (not_possible u (CanCast (scalar_type l) u (scalar_content l)) e m.0 a.refuses_only))))
+      inr (m.1, never_other s (λ v. no_cast h (λ c. subst (λ w. ¬ (CanCast (scalar_type l) w (scalar_content l))) q (not_possible u (CanCast (scalar_type l) u (scalar_content l)) e m.0 a.refuses_only) c.1)))
 
-pub ruleset casts = (cast_made, cast_refused)
+pub ruleset casts = (cast_made, cast_refused, cast_reinterprets)
 
 pub ruleset positions = (lacking_stands, has_literal)
 
@@ -285,9 +294,9 @@ abbrev IsMade : Formula → List Scalar → Result Filter FilterError → Type 0
 IsMade f ls r = IfOk r (λ g. formula g ≡ f) × IfOk r (λ g. literals_of g ≡ ls) × IfErr r (λ e. e ≡ OutOfMemory)
 
 module _ (t : TypeTree) (k : ℕ) where
-  pub comparison_stands : (op : CompareOperator) (x : Scalar) (p : Position) (r : Result Filter FilterError) → StandsAt t x p → IsMade (comparison_of k op (position_tree p)) (scalars_of p) r
+  pub comparison_stands : (op : CompareOperator) (x : Scalar) (p : Position) (r : Result Filter FilterError) → StandsAt t x p → IsMade (comparison_of k op (position_tree p)) (compared_scalars op p) r
       → CoercesTest t (comparing (x ∷ [])) (comparison_of k op (position_in t (cell_of x))) (x ∷ []) k r
-  comparison_stands op x p (Ok g) h m = (m.0 ∙ ap (comparison_of k op) h.0, (h.1, tt), λ v. valid_same (literals_of g) (scalars_of p) m.1 (h.2 v.0))
+  comparison_stands op x p (Ok g) h m = (m.0 ∙ ap (comparison_of k op) h.0, (h.1, tt), λ v. valid_same (literals_of g) (compared_scalars op p) m.1 (valid_compared op p (h.2 v.0)))
   comparison_stands op x p (Err e) h m = inl m.2
 
   pub comparison_stops : (op : CompareOperator) (x : Scalar) (e : FilterError) → RefusesLiterals k (IsCoercible t x) e → CoercesTest t (comparing (x ∷ [])) (comparison_of k op (position_in t (cell_of x))) (x ∷ []) k (Err e)
@@ -295,9 +304,9 @@ module _ (t : TypeTree) (k : ℕ) where
   comparison_stops op x e (inr p) = inr (p.0, λ s. p.1 s.0)
 
   module _ (x y : Scalar) where
-    pub range_stands : (p q : Position) (r : Result Filter FilterError) → StandsAt t x p → StandsAt t y q → IsMade (range_of k (position_tree p) (position_tree q)) (scalars_of p ++ scalars_of q) r
+    pub range_stands : (p q : Position) (r : Result Filter FilterError) → StandsAt t x p → StandsAt t y q → IsMade (range_of k (position_tree p) (position_tree q)) (compared_scalars Gte p ++ compared_scalars Lte q) r
         → CoercesTest t (comparing (x ∷ y ∷ [])) (range_of k (position_in t (cell_of x)) (position_in t (cell_of y))) (x ∷ y ∷ []) k r
-    range_stands p q (Ok g) h i m = (m.0 ∙ ap₂ (range_of k) h.0 i.0, (h.1, (i.1, tt)), λ v. valid_with (literals_of g) (scalars_of p) (scalars_of q) m.1 (h.2 v.0) (i.2 v.1.0))
+    range_stands p q (Ok g) h i m = (m.0 ∙ ap₂ (range_of k) h.0 i.0, (h.1, (i.1, tt)), λ v. valid_with (literals_of g) (compared_scalars Gte p) (compared_scalars Lte q) m.1 (valid_compared Gte p (h.2 v.0)) (valid_compared Lte q (i.2 v.1.0)))
     range_stands p q (Err e) h i m = inl m.2
 
     pub lower_stops : (e : FilterError) → RefusesLiterals k (IsCoercible t x) e → CoercesTest t (comparing (x ∷ y ∷ [])) (range_of k (position_in t (cell_of x)) (position_in t (cell_of y))) (x ∷ y ∷ []) k (Err e)
@@ -385,6 +394,7 @@ pub record IsKept (t : TypeTree) (ks : List Cell) (xs : List Scalar) : Type 0 wh
 cells_append : (ps qs : List PositionTree) → cells_of (ps ++ qs) ≡ cells_of ps ++ cells_of qs
 cells_append [] qs = refl
 cells_append (exactly x ∷ ps) qs = ap (λ ks. x ∷ ks) (cells_append ps qs)
+cells_append (just_above x ∷ ps) qs = cells_append ps qs
 cells_append (lacking o ∷ ps) qs = cells_append ps qs
 
 coercible_more : (t : TypeTree) (xs : List Scalar) (x : Scalar) → AllByRecursion (IsCoercible t) xs → IsCoercible t x → AllByRecursion (IsCoercible t) (xs ++ x ∷ [])

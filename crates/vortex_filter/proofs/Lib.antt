@@ -3,6 +3,7 @@ pub mod CheckLaws
 pub mod CheckSteps
 pub mod CoerceLaws
 pub mod CoerceSteps
+pub mod ExtensionSteps
 pub mod FitProofs
 pub mod LiteralLaws
 pub mod LiteralSteps
@@ -10,5 +11,6 @@ pub mod Loops
 pub mod MakeSteps
 pub mod PositionLaws
 pub mod PrefixSteps
+pub mod StandingLaws
 pub mod Steps
 pub mod TestSteps

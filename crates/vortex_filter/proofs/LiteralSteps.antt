@@ -8,10 +8,14 @@ use Rattle.vortex_value.specs.Values.Scalars.{IsMadeOf, IsValid, scalar_raw, sca
 use Rattle.vortex_value.specs.declared.scalars.Scalar.{Scalar}
 use Rattle.vortex_filter.specs.declared.error.FilterError.{FilterError}
 use Rattle.vortex_filter.specs.declared.filter.Filter.{Filter, Constant, Compare, IsNull, In, Between, StartsWith, And, Or, Not, the_lemmas}
+use Rattle.vortex_filter.specs.declared.literals.Position.{Position}
+use Rattle.vortex_filter.specs.declared.literals.Position.TheVariants.{Exactly, JustAbove, Lacking}
 use Rattle.vortex_filter.specs.declared.operator.CompareOperator.{CompareOperator}
+use Rattle.vortex_filter.specs.declared.operator.CompareOperator.TheVariants.{Eq, NotEq, Gt, Gte, Lt, Lte}
 use Rattle.vortex_filter.specs.declared.truth.Truth.{Truth}
 use Rattle.vortex_filter.specs.FilterLiterals.{AreValid, MakesCopies, MakesValid, exactly_of, literals_of}
 use Rattle.vortex_filter.specs.Makes.{OfParts}
+use Rattle.vortex_filter.specs.Positions.{compared_scalars, scalars_at, scalars_below, scalars_of}
 
 -- ---- the literals of each kind of filter
 
@@ -67,7 +71,27 @@ valid_with zs xs ys e v w = subst AreValid (sym e) (valid_both xs ys v w)
 pub constant_valid : (t : Truth) → AreValid (literals_of (Constant t))
 constant_valid t = subst AreValid (sym (literals-Constant t)) tt
 
-pub ruleset valid = (valid_same, valid_with, constant_valid, literals-Constant, literals-Compare, literals-IsNull, literals-In, literals-Between, literals-StartsWith, literals-And, literals-Or, literals-Not)
+-- of a position
+
+valid_below : (op : CompareOperator) (x : Scalar) → AreValid (x ∷ []) → AreValid (scalars_below op x)
+valid_below Eq x v = tt
+valid_below NotEq x v = tt
+valid_below Gt x v = v
+valid_below Gte x v = v
+valid_below Lt x v = v
+valid_below Lte x v = v
+
+pub valid_compared : (op : CompareOperator) (p : Position) → AreValid (scalars_of p) → AreValid (compared_scalars op p)
+valid_compared op (Exactly x) v = v
+valid_compared op (JustAbove x) v = valid_below op x v
+valid_compared op (Lacking o) v = v
+
+pub valid_at : (p : Position) → AreValid (scalars_of p) → AreValid (scalars_at p)
+valid_at (Exactly x) v = v
+valid_at (JustAbove x) v = tt
+valid_at (Lacking o) v = v
+
+pub ruleset valid = (valid_same, valid_with, valid_compared, valid_at, constant_valid, literals-Constant, literals-Compare, literals-IsNull, literals-In, literals-Between, literals-StartsWith, literals-And, literals-Or, literals-Not)
 
 -- ---- copies
 

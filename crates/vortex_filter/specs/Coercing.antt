@@ -11,6 +11,7 @@ use Rattle.vortex_value.specs.Values.Content.{Content, whole}
 use Rattle.vortex_value.specs.Values.Scalars.{IsValid, scalar_content, scalar_type}
 use Rattle.vortex_value.specs.declared.scalars.Scalar.{Scalar}
 use Rattle.vortex_cells.specs.Cells.{Cell, cell_of}
+use Rattle.vortex_filter.specs.Extensions.{reinterprets}
 use Rattle.vortex_filter.specs.Formula.{Formula, constant, comparison, null_test, membership, range, prefix_test, both, either, negation}
 use Rattle.vortex_filter.specs.Positions.{PositionTree, exactly, lacking, comparison_of, member_among, range_of}
 
@@ -29,10 +30,14 @@ lacks t x = if same_type t x.typed then false else lacks_number t x.typed x.cont
 abbrev pub coerced_cell : TypeTree → Cell → Cell
 coerced_cell t x = if same_type t x.typed then x else record { typed = as_nullable t; content = x.content }
 
+-- the literal has a cast to the column's type, made nullable, which takes no storage for a value and no value for its storage
+abbrev pub KeepsValue : TypeTree → Scalar → Type 0
+KeepsValue t x = (reinterprets (scalar_type x) t (scalar_content x) ≡ false) × CanCast (scalar_type x) (as_nullable t) (scalar_content x)
+
 -- the literal is of the column's type up to nullability; or it is valid for its own type, and an integer that the column's
--- lacks, or one with a cast to the column's, made nullable
+-- lacks, or one with such a cast
 abbrev pub IsCoercible : TypeTree → Scalar → Type 0
-IsCoercible t x = Same t (scalar_type x) ⊎ (IsValid x × ((lacks t (cell_of x) ≡ true) ⊎ CanCast (scalar_type x) (as_nullable t) (scalar_content x)))
+IsCoercible t x = Same t (scalar_type x) ⊎ (IsValid x × ((lacks t (cell_of x) ≡ true) ⊎ KeepsValue t x))
 
 -- how each number of a type stands to one that the type lacks: as 0 does
 abbrev pub side : Content → Ordering

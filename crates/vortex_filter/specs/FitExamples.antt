@@ -1,18 +1,19 @@
 -- Worked cases of what fits the columns, of casts to their types, and of literals there, each a theorem.
-use Rattle.std.specs.Prelude.{◌≡◌, ℕ, pos, negsuc, [], ◌∷◌, Some, None, refl}
+use Rattle.std.specs.Prelude.{◌≡◌, ℕ, pos, negsuc, true, false, [], ◌∷◌, Some, None, codes, refl}
 use Rattle.std.specs.declared.cmp.Ordering.TheVariants.{Less, Greater}
-use Rattle.vortex_dtype.specs.TypeTree.{integer_type}
+use Rattle.vortex_dtype.specs.TypeTree.{TypeTree, extension_type, integer_type, list_type}
 use Rattle.vortex_dtype.specs.declared.nullability.Nullability.TheVariants.{NonNullable, Nullable}
 use Rattle.vortex_dtype.specs.declared.ptype.PType.TheVariants.{I16, I64, U8}
 use Rattle.vortex_value.specs.Values.Content.{null, whole}
 use Rattle.vortex_cells.specs.Cells.{Cell}
-use Rattle.vortex_filter.specs.declared.operator.CompareOperator.TheVariants.{Eq, Gt, Gte, Lt}
+use Rattle.vortex_filter.specs.declared.operator.CompareOperator.TheVariants.{Eq, NotEq, Gt, Gte, Lt, Lte}
 use Rattle.vortex_filter.specs.declared.truth.Truth.TheVariants.{Unknown, True}
 use Rattle.vortex_filter.specs.Checking.{comparing, nothing, tests}
 use Rattle.vortex_filter.specs.Coercing.{coerced}
+use Rattle.vortex_filter.specs.Extensions.{reinterprets}
 use Rattle.vortex_filter.specs.Formula.{Formula, both, comparison, constant, either, membership, negation, null_test, range}
 use Rattle.vortex_filter.specs.Literals.{null_literal, number_literal, text_literal, number_cell, position_of}
-use Rattle.vortex_filter.specs.Positions.{exactly, lacking}
+use Rattle.vortex_filter.specs.Positions.{exactly, just_above, lacking, comparison_of, member_among, range_of}
 use Rattle.vortex_filter.specs.Rows.{content_truth}
 
 -- an i64 literal, and an i16 literal as a cast makes it
@@ -69,6 +70,25 @@ by_contents = refl
 null_by_contents : content_truth (comparison 0 Lt (long 100000)) (no_short ∷ []) ≡ Unknown
 null_by_contents = refl
 
+-- ---- extensions
+
+abbrev float_column : TypeTree
+float_column = extension_type (codes "doqallin.f64") [] (integer_type I64 NonNullable)
+
+-- 10 is not the float that 10 stores, nor is that float 10; a null is the null of each type
+storage_for_value : reinterprets (integer_type I64 NonNullable) float_column (whole (pos 10)) ≡ true
+storage_for_value = refl
+
+value_for_storage : reinterprets float_column (integer_type I64 NonNullable) (whole (pos 10)) ≡ true
+value_for_storage = refl
+
+null_of_float : reinterprets (integer_type I64 Nullable) float_column null ≡ false
+null_of_float = refl
+
+-- nor in a list of them
+storages_in_list : reinterprets (list_type (integer_type I64 NonNullable) NonNullable) (list_type float_column NonNullable) (whole (pos 0)) ≡ true
+storages_in_list = refl
+
 -- ---- literals as they are written
 
 -- a number of the type; 100000, which each i16 is below; and -1, which each u8 is above
@@ -87,3 +107,27 @@ null_there = refl
 
 text_of_number : position_of (integer_type I16 NonNullable) (text_literal []) ≡ None
 text_of_number = refl
+
+-- ---- literals between two values
+
+-- 12.345 at two places lies just above 12.34, which stores 1234
+abbrev price : Cell
+price = record { typed = integer_type I64 NonNullable; content = whole (pos 1234) }
+
+below_between : comparison_of 0 Lt (just_above price) ≡ comparison 0 Lte price
+below_between = refl
+
+from_between : comparison_of 0 Gte (just_above price) ≡ comparison 0 Gt price
+from_between = refl
+
+equal_between : comparison_of 0 Eq (just_above price) ≡ both (null_test 0) (constant Unknown)
+equal_between = refl
+
+other_between : comparison_of 0 NotEq (just_above price) ≡ either (negation (null_test 0)) (constant Unknown)
+other_between = refl
+
+range_between : range_of 0 (exactly (long 5)) (just_above price) ≡ both (comparison 0 Gte (long 5)) (comparison 0 Lte price)
+range_between = refl
+
+member_between : member_among 0 (exactly (long 5) ∷ just_above price ∷ []) ≡ membership 0 (long 5 ∷ [])
+member_between = refl

@@ -4,6 +4,7 @@ pub mod Checking
 pub mod Coerces
 pub mod Coercing
 pub mod Examples
+pub mod Extensions
 pub mod FilterLiterals
 pub mod FitExamples
 pub mod FitLaws

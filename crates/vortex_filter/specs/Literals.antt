@@ -76,7 +76,7 @@ position_of t (number_literal z) = number_in t z
 position_of t (text_literal bs) = text_in t bs
 position_of t (bytes_literal bs) = bytes_in t bs
 
--- the scalar that stands where a literal does, if there is one
-abbrev pub scalars_at : Option Position → List Scalar
-scalars_at None = []
-scalars_at (Some p) = scalars_of p
+-- the scalar that a literal stands at or just above, if there is one
+abbrev pub scalars_in : Option Position → List Scalar
+scalars_in None = []
+scalars_in (Some p) = scalars_of p

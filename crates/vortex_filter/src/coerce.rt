@@ -5,6 +5,7 @@ ghost use Rattle.vortex_filter.specs.Coerces.{Coerces, CoercesLiteral, CoercesLi
 ghost use Rattle.vortex_filter.specs.Coerces.{integer_in, lacking_of, lacking_order, number_in, number_lacking};
 ghost use Rattle.vortex_filter.specs.Coercing.{IsCoercible, coerced, coerced_cell, lacks, position_in};
 ghost use Rattle.vortex_filter.specs.Checking.{AllFit, asks, beginning, comparing, nothing};
+ghost use Rattle.vortex_filter.specs.Extensions.{reinterprets};
 ghost use Rattle.vortex_filter.specs.FilterLiterals.{AreValid, literal_tests, literals_of};
 ghost use Rattle.vortex_filter.specs.Positions.{comparison_of, member_among, range_of};
 ghost use Rattle.vortex_filter.specs.Rows.{IsRowOf, content_truth};
@@ -16,6 +17,7 @@ use crate::building::{conjoin, disjoin, negate};
 use crate::check::{behind, holds_strings, is_of_type, type_at};
 use crate::copies::copy_scalar;
 use crate::error::FilterError;
+use crate::extensions::reinterprets;
 use crate::filter::Filter;
 use crate::literals::{Position, nullable};
 use crate::operator::CompareOperator;
@@ -39,8 +41,9 @@ impl Filter {
     ///
     /// It is refused for the first test, in reading order, with a literal that cannot be cast, or
     /// whose column is not there or has values without an order. A literal of another type than the
-    /// column's that is not valid for its own counts as one that cannot be cast. Of valid literals it
-    /// makes valid ones. `OutOfMemory` may come in place of each answer, and is the only refusal of a
+    /// column's that is not valid for its own counts as one that cannot be cast, and so does one whose
+    /// cast would take what stores the value of an extension for the value, or the other way round: 10
+    /// is not the float that 10 stores. Of valid literals it makes valid ones. `OutOfMemory` may come in place of each answer, and is the only refusal of a
     /// filter that passes `check`.
     ///
     /// It borrows the filter: casts are new scalars anyway, and so nothing is lost if it is refused.
@@ -336,8 +339,27 @@ fn position_in(
     }
     match lacking(dtype, literal) {
         Some(order) => Ok(Position::Lacking(order)),
-        None => cast_valid(alloc, dtype, column, literal),
+        None => cast_or_refuse(alloc, dtype, column, literal),
     }
+}
+
+/// The cast of a valid literal to the type, made nullable, unless it takes a storage for a value or a
+/// value for its storage.
+fn cast_or_refuse(
+    alloc: Global,
+    dtype: &DType,
+    column: usize,
+    literal: &Scalar,
+) -> Result<Position, FilterError>
+    requires valid { IsValid literal.now }
+    requires other { same_type (type_of dtype.now) (scalar_type literal.now) ≡ false }
+    requires has { lacks (type_of dtype.now) (cell_of literal.now) ≡ false }
+    ensures { CoercesLiteral (type_of dtype.now) literal.now column result }
+{
+    if reinterprets(literal, dtype) {
+        return Err(FilterError::TypesDiffer { test: 0, column });
+    }
+    cast_valid(alloc, dtype, column, literal)
 }
 
 /// The cast of a valid literal to the type, made nullable.
@@ -351,6 +373,7 @@ fn cast_valid(
     requires valid { IsValid literal.now }
     requires other { same_type (type_of dtype.now) (scalar_type literal.now) ≡ false }
     requires has { lacks (type_of dtype.now) (cell_of literal.now) ≡ false }
+    requires keeps { reinterprets (scalar_type literal.now) (type_of dtype.now) (scalar_content literal.now) ≡ false }
     ensures { CoercesLiteral (type_of dtype.now) literal.now column result }
 {
     let target = match nullable(alloc, dtype) {

@@ -5,6 +5,7 @@
 
 ghost use Rattle.vortex_filter.specs.FilterLiterals.{FormulasSayLiterals};
 ghost use Rattle.vortex_filter.specs.FitLaws.{FittingComparesContents, UnknownForNulls, UnknownWithoutOrder};
+ghost use Rattle.vortex_filter.specs.Positions.{ComparisonsStand, NullsAreUnknown};
 
 use vortex_dtype::laws::nullable_is_the_same;
 use vortex_value::laws::one_value;
@@ -32,3 +33,10 @@ pub fn formulas_say_literals()
 {
     one_value();
 }
+
+/// A comparison with a literal says of a value whether it holds of values that stand so to the
+/// literal, wherever this stands among those of the column's type. Of a null it is Unknown.
+pub fn comparisons_stand()
+    ensures values { ComparisonsStand }
+    ensures nulls { NullsAreUnknown }
+{}

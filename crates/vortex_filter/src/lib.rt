@@ -9,6 +9,7 @@ mod coerce;
 mod copies;
 mod error;
 mod evaluation;
+mod extensions;
 mod filter;
 pub mod laws;
 mod literals;

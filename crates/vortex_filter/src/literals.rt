@@ -3,7 +3,7 @@
 ghost use Rattle.std.specs.Prelude.{◌≡◌, IfErr, IfOk, MatchResult, Some, option_map};
 ghost use Rattle.vortex_filter.specs.FilterLiterals.{AreValid};
 ghost use Rattle.vortex_filter.specs.Literals.{bytes_in, literal_tree, null_cell, number_in, number_position};
-ghost use Rattle.vortex_filter.specs.Literals.{position_of, scalars_at, text_in, truth_in};
+ghost use Rattle.vortex_filter.specs.Literals.{position_of, scalars_in, text_in, truth_in};
 ghost use Rattle.vortex_filter.specs.Positions.{exactly, position_tree, scalars_of};
 ghost use Rattle.vortex_filter.specs.Words.{OutOfMemory, as_nullable, type_of};
 
@@ -34,7 +34,9 @@ pub enum Literal<'a> {
 pub enum Position {
     /// At a value of the type, or at its null.
     Exactly(Scalar),
-    /// At a number that the type lacks: each number of the type stands so to it.
+    /// Between this value of the type and the next.
+    JustAbove(Scalar),
+    /// Where each value of the type stands so to it: below all of them, or above.
     Lacking(Ordering),
 }
 
@@ -47,7 +49,7 @@ impl Literal<'_> {
     pub fn position(self, alloc: Global, dtype: &DType) -> Result<Option<Position>, FilterError>
         ensures value { IfOk result (λ found. option_map position_tree found
             ≡ position_of (type_of dtype.now) (literal_tree self.entry)) }
-        ensures valid { IfOk result (λ found. AreValid (scalars_at found)) }
+        ensures valid { IfOk result (λ found. AreValid (scalars_in found)) }
         ensures refused { IfErr result (λ e. e ≡ OutOfMemory) }
     {
         match self {
@@ -64,7 +66,7 @@ impl Literal<'_> {
 fn null_in(alloc: Global, dtype: &DType) -> Result<Option<Position>, FilterError>
     ensures value { IfOk result (λ found. option_map position_tree found
         ≡ Some (exactly (null_cell (type_of dtype.now)))) }
-    ensures valid { IfOk result (λ found. AreValid (scalars_at found)) }
+    ensures valid { IfOk result (λ found. AreValid (scalars_in found)) }
     ensures refused { IfErr result (λ e. e ≡ OutOfMemory) }
 {
     match nullable(alloc, dtype) {
@@ -91,7 +93,7 @@ pub(crate) fn nullable(alloc: Global, dtype: &DType) -> Result<DType, FilterErro
 /// A truth value, in a column of truth values.
 fn truth_in(dtype: &DType, truth: bool) -> Option<Position>
     ensures value { option_map position_tree result ≡ truth_in (type_of dtype.now) truth }
-    ensures valid { AreValid (scalars_at result) }
+    ensures valid { AreValid (scalars_in result) }
 {
     match dtype {
         DType::Bool(_) => Some(Position::Exactly(Scalar::bool(truth, Nullability::NonNullable))),
@@ -102,7 +104,7 @@ fn truth_in(dtype: &DType, truth: bool) -> Option<Position>
 /// A number, in a column of integers.
 fn number_in(dtype: &DType, number: i128) -> Option<Position>
     ensures value { option_map position_tree result ≡ number_in (type_of dtype.now) number }
-    ensures valid { AreValid (scalars_at result) }
+    ensures valid { AreValid (scalars_in result) }
 {
     match dtype {
         DType::Primitive(ptype, _) => Some(number_position(*ptype, number)),
@@ -128,7 +130,7 @@ fn number_position(ptype: PType, number: i128) -> Position
 fn text_in(alloc: Global, dtype: &DType, text: &str) -> Result<Option<Position>, FilterError>
     ensures value { IfOk result (λ found.
         option_map position_tree found ≡ text_in (type_of dtype.now) text.now) }
-    ensures valid { IfOk result (λ found. AreValid (scalars_at found)) }
+    ensures valid { IfOk result (λ found. AreValid (scalars_in found)) }
     ensures refused { IfErr result (λ e. e ≡ OutOfMemory) }
 {
     match dtype {
@@ -150,7 +152,7 @@ fn text_in(alloc: Global, dtype: &DType, text: &str) -> Result<Option<Position>,
 fn bytes_in(alloc: Global, dtype: &DType, bytes: &[u8]) -> Result<Option<Position>, FilterError>
     ensures value { IfOk result (λ found.
         option_map position_tree found ≡ bytes_in (type_of dtype.now) bytes.now) }
-    ensures valid { IfOk result (λ found. AreValid (scalars_at found)) }
+    ensures valid { IfOk result (λ found. AreValid (scalars_in found)) }
     ensures refused { IfErr result (λ e. e ≡ OutOfMemory) }
 {
     match dtype {

@@ -2,8 +2,9 @@
 
 ghost use Rattle.std.specs.Prelude.{◌≡◌, ◌∷◌, ◌++◌, [], IfErr, IfOk, IfSome, map, option_map};
 ghost use Rattle.vortex_filter.specs.FilterLiterals.{literals_of};
-ghost use Rattle.vortex_filter.specs.Positions.{cells_of, comparison_of, exactly, for_values, member_of, position_tree};
-ghost use Rattle.vortex_filter.specs.Positions.{prefix_of, range_of, scalars_of};
+ghost use Rattle.vortex_filter.specs.Positions.{cells_of, compared_scalars, comparison_above, comparison_of, exactly};
+ghost use Rattle.vortex_filter.specs.Positions.{for_values, member_of, position_tree, prefix_of, range_of, scalars_at};
+ghost use Rattle.vortex_filter.specs.Positions.{scalars_below, scalars_of};
 ghost use Rattle.vortex_filter.specs.Words.{OutOfMemory, both, cell_of, formula};
 
 use crate::error::FilterError;
@@ -31,7 +32,8 @@ fn for_values(alloc: Global, holds: bool, column: usize) -> Result<Filter, Filte
     }
 }
 
-/// How the column stands to a literal. To a number that its type lacks, each value stands the same.
+/// How the column stands to a literal. To a number that its type lacks, each value stands the same, or
+/// those up to one value and those behind it.
 ///
 /// `OutOfMemory` is its only refusal.
 #[tactic(auto, using(crate::proofs::Steps::shown, crate::proofs::LiteralSteps::literals))]
@@ -43,7 +45,7 @@ pub fn comparison_of(
 ) -> Result<Filter, FilterError>
     ensures made { IfOk result (λ f.
         formula f ≡ comparison_of column operator (position_tree literal)) }
-    ensures literals { IfOk result (λ f. literals_of f ≡ scalars_of literal) }
+    ensures literals { IfOk result (λ f. literals_of f ≡ compared_scalars operator literal) }
     ensures refused { IfErr result (λ e. e ≡ OutOfMemory) }
 {
     match literal {
@@ -52,7 +54,43 @@ pub fn comparison_of(
             operator,
             literal,
         }),
+        Position::JustAbove(value) => comparison_above(alloc, column, operator, value),
         Position::Lacking(order) => for_values(alloc, operator.holds(order), column),
+    }
+}
+
+/// How the column stands to what lies between a value and the next: no value is equal to it.
+#[tactic(auto, using(crate::proofs::Steps::shown, crate::proofs::LiteralSteps::literals))]
+fn comparison_above(
+    alloc: Global,
+    column: usize,
+    operator: CompareOperator,
+    value: Scalar,
+) -> Result<Filter, FilterError>
+    ensures made { IfOk result (λ f.
+        formula f ≡ comparison_above column operator (cell_of value)) }
+    ensures literals { IfOk result (λ f. literals_of f ≡ scalars_below operator value) }
+    ensures refused { IfErr result (λ e. e ≡ OutOfMemory) }
+{
+    match operator {
+        CompareOperator::Eq => {
+            drop(value);
+            for_values(alloc, false, column)
+        }
+        CompareOperator::NotEq => {
+            drop(value);
+            for_values(alloc, true, column)
+        }
+        CompareOperator::Gt | CompareOperator::Gte => Ok(Filter::Compare {
+            column,
+            operator: CompareOperator::Gt,
+            literal: value,
+        }),
+        CompareOperator::Lt | CompareOperator::Lte => Ok(Filter::Compare {
+            column,
+            operator: CompareOperator::Lte,
+            literal: value,
+        }),
     }
 }
 
@@ -68,12 +106,13 @@ pub fn range_of(
 ) -> Result<Filter, FilterError>
     ensures made { IfOk result (λ f.
         formula f ≡ range_of column (position_tree lower) (position_tree upper)) }
-    ensures literals { IfOk result (λ f.
-        literals_of f ≡ scalars_of lower ++ scalars_of upper) }
+    ensures literals { IfOk result (λ f. literals_of f
+        ≡ compared_scalars CompareOperator.Gte lower ++ compared_scalars CompareOperator.Lte upper) }
     ensures refused { IfErr result (λ e. e ≡ OutOfMemory) }
 {
     match lower {
         Position::Exactly(lower) => range_from(alloc, column, lower, upper),
+        Position::JustAbove(value) => halves(alloc, column, Position::JustAbove(value), upper),
         Position::Lacking(order) => halves(alloc, column, Position::Lacking(order), upper),
     }
 }
@@ -88,7 +127,8 @@ fn range_from(
 ) -> Result<Filter, FilterError>
     ensures made { IfOk result (λ f.
         formula f ≡ range_of column (exactly (cell_of lower)) (position_tree upper)) }
-    ensures literals { IfOk result (λ f. literals_of f ≡ lower ∷ scalars_of upper) }
+    ensures literals { IfOk result (λ f.
+        literals_of f ≡ lower ∷ compared_scalars CompareOperator.Lte upper) }
     ensures refused { IfErr result (λ e. e ≡ OutOfMemory) }
 {
     match upper {
@@ -97,6 +137,12 @@ fn range_from(
             lower,
             upper,
         }),
+        Position::JustAbove(value) => halves(
+            alloc,
+            column,
+            Position::Exactly(lower),
+            Position::JustAbove(value),
+        ),
         Position::Lacking(order) => halves(
             alloc,
             column,
@@ -116,8 +162,8 @@ fn halves(
     ensures made { IfOk result (λ f. formula f
         ≡ both (comparison_of column CompareOperator.Gte (position_tree lower))
         (comparison_of column CompareOperator.Lte (position_tree upper))) }
-    ensures literals { IfOk result (λ f.
-        literals_of f ≡ scalars_of lower ++ scalars_of upper) }
+    ensures literals { IfOk result (λ f. literals_of f
+        ≡ compared_scalars CompareOperator.Gte lower ++ compared_scalars CompareOperator.Lte upper) }
     ensures refused { IfErr result (λ e. e ≡ OutOfMemory) }
 {
     let lower = comparison_of(alloc, column, CompareOperator::Gte, lower)?;
@@ -152,7 +198,7 @@ pub fn with_position(
 ) -> Result<Vec<Scalar>, FilterError>
     ensures made { IfOk result (λ v. map cell_of v.items
         ≡ map cell_of literals.items ++ cells_of (position_tree position ∷ [])) }
-    ensures literals { IfOk result (λ v. v.items ≡ literals.items ++ scalars_of position) }
+    ensures literals { IfOk result (λ v. v.items ≡ literals.items ++ scalars_at position) }
     ensures refused { IfErr result (λ e. e ≡ OutOfMemory) }
 {
     match position {
@@ -160,11 +206,11 @@ pub fn with_position(
             literals.push(literal)?;
             Ok(literals)
         }
-        Position::Lacking(_) => Ok(literals),
+        Position::JustAbove(_) | Position::Lacking(_) => Ok(literals),
     }
 }
 
-/// Whether the column begins with the literal. `None` if this is a number.
+/// Whether the column begins with the literal. `None` if its type lacks this.
 #[tactic(auto, using(crate::proofs::Steps::shown, crate::proofs::LiteralSteps::literals))]
 pub fn prefix_of(column: usize, literal: Position) -> Option<Filter>
     ensures made { option_map formula result ≡ prefix_of column (position_tree literal) }
@@ -172,6 +218,6 @@ pub fn prefix_of(column: usize, literal: Position) -> Option<Filter>
 {
     match literal {
         Position::Exactly(prefix) => Some(Filter::StartsWith { column, prefix }),
-        Position::Lacking(_) => None,
+        Position::JustAbove(_) | Position::Lacking(_) => None,
     }
 }

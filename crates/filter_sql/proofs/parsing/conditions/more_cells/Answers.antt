@@ -5,7 +5,7 @@ use Rattle.vortex_dtype.specs.TypeOf.{type_of}
 use Rattle.vortex_cells.specs.Cells.{cell_of}
 use Rattle.filter_sql.specs.Tokens.{trees}
 use Rattle.filter_sql.proofs.TestSteps.{goes_on, wrong_on, literal_fails, end_fails, ends, is_smaller}
-use Rattle.vortex_filter.proofs.LiteralSteps.{valid_with}
+use Rattle.vortex_filter.proofs.LiteralSteps.{valid_at, valid_with}
 use Rattle.filter_sql.proofs.parsing.conditions.more_cells.Goals as goal
 
 pub returns-in_err-literal-clause-read : goal.returns-in_err-literal-clause-read
@@ -21,7 +21,7 @@ loop-after-preserved c =
     let front = map cell_of c.loop-after.literals.items in (
       goes_on (type_of c.args.dtype.now) front (trees c.loop-after.rest.now) _ c.loop-after.invariant.0 _ c.loop-after.invariant.1 _ _ _ _ c.in-Some.ensures c.in_ok-literal.ensures.read c.in_ok-literals.ensures.made,
       wrong_on (type_of c.args.dtype.now) front (trees c.loop-after.rest.now) _ c.loop-after.invariant.0 _ c.loop-after.invariant.1 _ _ _ c.in-Some.ensures c.in_ok-literal.ensures.read,
-      λ v. valid_with _ _ _ c.in_ok-literals.ensures.literals (c.loop-after.invariant.2 v) c.in_ok-literal.ensures.valid,
+      λ v. valid_with _ _ _ c.in_ok-literals.ensures.literals (c.loop-after.invariant.2 v) (valid_at c.in_ok-literal.literal c.in_ok-literal.ensures.valid),
     )
 
 pub returns-in_err-rest-clause-read : goal.returns-in_err-rest-clause-read
