@@ -5,7 +5,10 @@ mod DecimalsExact
 mod FloatWords
 mod NamesBack
 mod OneValue
+mod PlacesAre
 mod PlacesShown
+mod ShapeNames
+mod ShapesSay
 mod StoragesFit
 mod TimestampWords
 mod WideBytes

@@ -6,10 +6,10 @@ use Rattle.logical_types.specs.Places.{IsPlaceOf}
 use Rattle.logical_types.specs.declared.decimals.places.DecimalPlace.TheVariants.{At, Behind, BelowAll, AboveAll}
 
 -- multiples of a unit on both sides of zero
-from_zero : (f u : ℕ) → pos f *ℤ pos u ≡ pos (u * f)
+pub from_zero : (f u : ℕ) → pos f *ℤ pos u ≡ pos (u * f)
 from_zero f u = let e : f * u ≡ u * f = omega arith in ap pos e
 
-below_zero : (f u : ℕ) → neg_ℤ (pos f) *ℤ pos u ≡ neg_ℤ (pos (u * f))
+pub below_zero : (f u : ℕ) → neg_ℤ (pos f) *ℤ pos u ≡ neg_ℤ (pos (u * f))
 below_zero zero u = let e : u * zero ≡ zero = omega arith in let k : zero * u ≡ zero = omega arith in rw e (ap pos k)
 below_zero (suc f) u = let e : suc f * u ≡ u * suc f = omega arith in ap (λ (n : ℕ). neg_ℤ (pos n)) e
 

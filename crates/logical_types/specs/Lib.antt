@@ -6,6 +6,8 @@ pub mod Extensions
 pub mod Floats
 pub mod Names
 pub mod Places
+pub mod ShapeExamples
+pub mod Shapes
 pub mod Storing
 pub mod Times
 pub mod Words

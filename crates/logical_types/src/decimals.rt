@@ -6,7 +6,7 @@ mod printing;
 mod reading;
 mod storing;
 
-pub use places::{DecimalPlace, place_of_word};
+pub use places::{DecimalPlace, place_among_values, place_of_word};
 pub use printing::text_of_decimal;
 pub use reading::decimal_of_word;
 pub use storing::{bytes_of_decimal, decimal_of_bytes};

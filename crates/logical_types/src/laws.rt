@@ -2,14 +2,17 @@
 //! Laws of words, each the contract of a function that does nothing.
 
 ghost use mir.Syntax.{w128};
-ghost use Rattle.std.specs.Prelude.{◌≡◌, ◌<◌, ◌^◌, FitsSigned, ℕ, ℤ, List, Some, unsigned_abs};
+ghost use Rattle.std.specs.Prelude.{◌≡◌, ◌<◌, ◌↔◌, ◌^◌, FitsSigned, ℕ, ℤ, List, Some, unsigned_abs};
 ghost use Rattle.logical_types.specs.DecimalWorth.{IsWorth};
 ghost use Rattle.logical_types.specs.Decimals.{decimal_text, decimal_value};
-ghost use Rattle.logical_types.specs.Extensions.{FitsStorage, storage_type_of};
+ghost use Rattle.logical_types.specs.Extensions.{FitsStorage, IsExtension, storage_type_of};
 ghost use Rattle.logical_types.specs.Places.{IsPlaceOfWord, fine_scale};
+ghost use Rattle.logical_types.specs.Shapes.{Shape, shape_of, shape_of_extension, storage_in};
+ghost use Rattle.logical_types.specs.declared.logical.LogicalType.{LogicalType as LogicalTypes};
 ghost use Rattle.logical_types.specs.Storing.{decimal_bytes};
 ghost use Rattle.logical_types.specs.Words.{IsStorageOf, Writes};
 ghost use Rattle.logical_types.specs.declared.decimals.places.DecimalPlace.{DecimalPlace};
+ghost use Rattle.logical_types.specs.declared.extensions.StorageType.{StorageType};
 ghost use Rattle.std.specs.Cmp.Lexicographic.{slice_cmp};
 ghost use Rattle.std.specs.Ordering.{int_cmp, nat_cmp};
 
@@ -59,3 +62,19 @@ pub fn a_word_is_of_one_value(logical: LogicalType)
 {
     let _ = logical;
 }
+
+/// The word of a value says its storage, as a function of the word.
+pub fn shapes_say_words()
+    ensures { (l : LogicalTypes) (word : List ℕ) (z : ℤ)
+        → (storage_in (shape_of l) word ≡ Some z) ↔ Writes l word z }
+{}
+
+/// The id, the metadata and the storage of an extension say its logical type, as a function of them.
+pub fn shapes_say_extensions()
+    ensures says { (l : LogicalTypes) (id metadata : List ℕ) (kind : StorageType)
+        → (shape_of_extension id metadata kind ≡ Some (shape_of l))
+        ↔ IsExtension id metadata kind l }
+    ensures whole { (id metadata : List ℕ) (kind : StorageType) (shape : Shape)
+        → shape_of_extension id metadata kind ≡ Some shape
+        → (l : LogicalTypes) × (shape_of l ≡ shape) }
+{}

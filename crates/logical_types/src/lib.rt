@@ -18,8 +18,8 @@ mod words;
 pub use clock::{time_of_word, word_of_time};
 pub use dates::{day_of_word, word_of_day};
 pub use decimals::{
-    DecimalPlace, bytes_of_decimal, decimal_of_bytes, decimal_of_word, place_of_word,
-    text_of_decimal,
+    DecimalPlace, bytes_of_decimal, decimal_of_bytes, decimal_of_word, place_among_values,
+    place_of_word, text_of_decimal,
 };
 pub use extensions::{
     StorageType, extension_id, extension_metadata, is_extension_of, logical_type_of_extension,

@@ -1,8 +1,9 @@
 // SPDX-License-Identifier: Apache-2.0
 //! Where a decimal number lies among the values of a type.
 
-ghost use Rattle.std.specs.Prelude.{◌≡◌, ◌<◌, ◌≤◌, ◌-◌, ◌^◌, IfNone, IfSome, None, neg_ℤ, pos};
+ghost use Rattle.std.specs.Prelude.{◌≡◌, ◌<◌, ◌≤◌, ◌-◌, ◌/◌, ◌%◌, ◌^◌, IfNone, IfSome, None, neg_ℤ, option_map, pos};
 ghost use Rattle.logical_types.specs.Places.{IsPlaceOf, IsPlaceOfWord, fine_scale, number_at, places_behind};
+ghost use Rattle.logical_types.specs.Shapes.{IsAmong, place_at, place_below_zero, place_from_zero, place_in};
 
 use super::reading::decimal_of_word;
 use crate::logical::DecimalType;
@@ -25,6 +26,9 @@ pub enum DecimalPlace {
 pub fn place_of_word(decimal: DecimalType, word: &[u8]) -> Option<DecimalPlace>
     ensures some { IfSome result (IsPlaceOfWord decimal word.now) }
     ensures none { IfNone result (number_at (fine_scale decimal.scale word.now) word.now ≡ None) }
+    ensures value { result ≡ option_map
+        (place_at (10 ^ decimal.precision) (10 ^ (fine_scale decimal.scale word.now - decimal.scale)))
+        (number_at (fine_scale decimal.scale word.now) word.now) }
 {
     let scale = fine_scale(decimal.scale, word)?;
     let fine = DecimalType {
@@ -34,6 +38,19 @@ pub fn place_of_word(decimal: DecimalType, word: &[u8]) -> Option<DecimalPlace>
     let number = decimal_of_word(fine, word)?;
     let unit = unit_between(decimal.scale, scale);
     Some(place_of(decimal.limit(), unit, number))
+}
+
+/// The same as one place: at a value that the word writes, or else where its number lies. None if it
+/// writes no number, or one that is no value and has more than 38 digits.
+#[tactic(auto, unfolding(crate::specs::Shapes::place_in))]
+pub fn place_among_values(decimal: DecimalType, word: &[u8]) -> Option<DecimalPlace>
+    ensures value { result ≡ place_in decimal.precision decimal.scale word.now }
+    ensures within { IfSome result (IsAmong (10 ^ decimal.precision)) }
+{
+    match decimal_of_word(decimal, word) {
+        Some(number) => Some(DecimalPlace::At(number)),
+        None => place_of_word(decimal, word),
+    }
 }
 
 /// As many places as the word has, or as the type. None if that is more than 38.
@@ -78,7 +95,8 @@ fn place_of(limit: u128, unit: u128, number: i128) -> DecimalPlace
     requires some { 0 < limit }
     requires small { limit ≤ 10 ^ 38 }
     requires unit { 0 < unit }
-    ensures { IsPlaceOf limit unit number result }
+    ensures lies { IsPlaceOf limit unit number result }
+    ensures value { result ≡ place_at limit unit number }
 {
     if number < 0 {
         place_below_zero(limit, unit, number.unsigned_abs())
@@ -91,7 +109,8 @@ fn place_from_zero(limit: u128, unit: u128, size: u128) -> DecimalPlace
     requires some { 0 < limit }
     requires small { limit ≤ 10 ^ 38 }
     requires unit { 0 < unit }
-    ensures { IsPlaceOf limit unit (pos size) result }
+    ensures lies { IsPlaceOf limit unit (pos size) result }
+    ensures value { result ≡ place_from_zero limit (size / unit) (size % unit) }
 {
     let factor = size / unit;
     let rest = size % unit;
@@ -108,7 +127,8 @@ fn place_below_zero(limit: u128, unit: u128, size: u128) -> DecimalPlace
     requires some { 0 < limit }
     requires small { limit ≤ 10 ^ 38 }
     requires unit { 0 < unit }
-    ensures { IsPlaceOf limit unit (neg_ℤ (pos size)) result }
+    ensures lies { IsPlaceOf limit unit (neg_ℤ (pos size)) result }
+    ensures value { result ≡ place_below_zero limit (size / unit) (size % unit) }
 {
     let factor = size / unit;
     let rest = size % unit;
