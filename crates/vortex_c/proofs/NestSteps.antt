@@ -16,12 +16,12 @@ use Rattle.vortex_pvalue.specs.Numbers.{in_range}
 use Rattle.vortex_value.specs.Equality.{HasNoTyped}
 use Rattle.vortex_cells.specs.Cells.{Cell}
 use Rattle.vortex_filter.specs.declared.operator.CompareOperator.{CompareOperator}
-use Rattle.vortex_filter.specs.declared.operator.CompareOperator.TheVariants.{Gte, Lte}
+use Rattle.vortex_filter.specs.declared.operator.CompareOperator.TheVariants.{Eq, NotEq, Gt, Gte, Lt, Lte}
 use Rattle.vortex_filter.specs.Formula.{both, comparison, constant, either, Formula, membership, negation, null_test, prefix_test, range}
 use Rattle.vortex_filter.specs.CheckSteps.{holds_strings}
 use Rattle.vortex_filter.specs.Literals.{bytes_cell, bytes_in, bytes_literal, LiteralTree, null_cell, null_literal, number_cell, number_in, number_literal, number_position, position_of, text_cell, text_in, text_literal, truth_cell, truth_in, truth_literal}
 use Rattle.vortex_filter.specs.Operators.{holds}
-use Rattle.vortex_filter.specs.Positions.{cells_of, comparison_of, exactly, for_values, lacking, member_among, member_of, PositionTree, prefix_of, range_of}
+use Rattle.vortex_filter.specs.Positions.{cells_of, comparison_above, comparison_of, exactly, for_values, just_above, lacking, member_among, member_of, PositionTree, prefix_of, range_of}
 use Rattle.vortex_filter.proofs.PositionLaws.{CellFits}
 use Rattle.filter_encoding.specs.Encoding.{CanBeWritten, IsPlain, IsPlainCell, Nests}
 use Rattle.filter_encoding.specs.Lists.{AreListed, Fits}
@@ -89,11 +89,13 @@ plain-back _ h = absurd h
 -- where a literal stands is a cell of a type that has a byte, or none
 abbrev IsPlainSaid : PositionTree → Type 0
 IsPlainSaid (exactly x) = IsPlainCell x
+IsPlainSaid (just_above x) = IsPlainCell x
 IsPlainSaid (lacking o) = Unit {0}
 
 -- no variant's child stands in it
 abbrev IsUntypedSaid : PositionTree → Type 0
 IsUntypedSaid (exactly x) = HasNoTyped x.content
+IsUntypedSaid (just_above x) = HasNoTyped x.content
 IsUntypedSaid (lacking o) = Unit {0}
 
 untyped-as : (p q : PositionTree) → Some p ≡ Some q → IsUntypedSaid p → IsUntypedSaid q
@@ -128,6 +130,7 @@ literal-untyped t (bytes_literal bs) p e = bytes-untyped t bs p e
 
 stands-plain : (t : TypeTree) (p : PositionTree) → IsPlain t → CellFits t p → IsUntypedSaid p → IsPlainSaid p
 stands-plain t (exactly x) h fits untyped = record { plain = plain-back x.typed (subst IsPlain fits (plain-erased t h)); untyped = untyped }
+stands-plain t (just_above x) h fits untyped = record { plain = plain-back x.typed (subst IsPlain fits (plain-erased t h)); untyped = untyped }
 stands-plain t (lacking o) h fits untyped = tt
 
 literal-plain : (t : TypeTree) (l : LiteralTree) (p : PositionTree) → IsPlain t → position_of t l ≡ Some p → IsPlainSaid p
@@ -140,6 +143,7 @@ record AreFew (ts : List TokenTree) (xs : List Cell) : Type 0 where
 
 one-more : (ts us : List TokenTree) (p : PositionTree) (ps : List PositionTree) → length ts < length us → IsPlainSaid p → AreFew ts (cells_of ps) → AreFew us (cells_of (p ∷ ps))
 one-more ts us (exactly x) ps less said few = record { plain = (said, few.plain); count = omega (arith, less, few.count) }
+one-more ts us (just_above x) ps less said few = record { plain = few.plain; count = omega (arith, less, few.count) }
 one-more ts us (lacking o) ps less said few = record { plain = few.plain; count = omega (arith, less, few.count) }
 
 none-few : (t : TypeTree) (ps : List PositionTree) → positions_of t [] ≡ Some ps → AreFew [] (cells_of ps)
@@ -158,14 +162,28 @@ module _ (k : ℕ) (t : TypeTree) (fits : Fits k) (plain : IsPlain t) where
   lacking-form true = (fits, tt)
   lacking-form false = (fits, tt)
 
+  above-form : (op : CompareOperator) (x : Cell) → IsPlainCell x → HasForm (comparison_above k op x)
+  above-form Eq x said = lacking-form false
+  above-form NotEq x said = lacking-form true
+  above-form Gt x said = (fits, said)
+  above-form Gte x said = (fits, said)
+  above-form Lt x said = (fits, said)
+  above-form Lte x said = (fits, said)
+
   comparison-form : (op : CompareOperator) (p : PositionTree) → IsPlainSaid p → HasForm (comparison_of k op p)
   comparison-form op (exactly x) said = (fits, said)
+  comparison-form op (just_above x) said = above-form op x said
   comparison-form op (lacking o) said = lacking-form (holds op o)
 
   range-form : (lower upper : PositionTree) → IsPlainSaid lower → IsPlainSaid upper → HasForm (range_of k lower upper)
   range-form (exactly x) (exactly y) low high = (fits, (low, high))
+  range-form (exactly x) (just_above y) low high = (comparison-form Gte (exactly x) low, comparison-form Lte (just_above y) high)
   range-form (exactly x) (lacking o) low high = (comparison-form Gte (exactly x) low, comparison-form Lte (lacking o) high)
+  range-form (just_above x) (exactly y) low high = (comparison-form Gte (just_above x) low, comparison-form Lte (exactly y) high)
+  range-form (just_above x) (just_above y) low high = (comparison-form Gte (just_above x) low, comparison-form Lte (just_above y) high)
+  range-form (just_above x) (lacking o) low high = (comparison-form Gte (just_above x) low, comparison-form Lte (lacking o) high)
   range-form (lacking o) (exactly y) low high = (comparison-form Gte (lacking o) low, comparison-form Lte (exactly y) high)
+  range-form (lacking o) (just_above y) low high = (comparison-form Gte (lacking o) low, comparison-form Lte (just_above y) high)
   range-form (lacking o) (lacking r) low high = (comparison-form Gte (lacking o) low, comparison-form Lte (lacking r) high)
 
   member-form : (xs : List Cell) → AllByRecursion IsPlainCell xs → length xs < 2 ^ 64 → HasForm (member_of k xs)
@@ -174,6 +192,7 @@ module _ (k : ℕ) (t : TypeTree) (fits : Fits k) (plain : IsPlain t) where
 
   prefix-form : (p : PositionTree) (f : Formula) → IsPlainSaid p → prefix_of k p ≡ Some f → HasForm f
   prefix-form (exactly x) f said e = let same : prefix_test k x ≡ f = cc in subst HasForm same (fits, said)
+  prefix-form (just_above x) f said e = absurd cc
   prefix-form (lacking o) f said e = absurd cc
 
   begun-form : (l : LiteralTree) (f : Formula) → formula_in k t (begun l) ≡ Some f → HasForm f
