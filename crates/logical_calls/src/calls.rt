@@ -8,9 +8,10 @@ use float_storage::{
     storage_of_f64_bits,
 };
 use logical_types::{
-    LogicalType, bytes_of_decimal, decimal_of_bytes, f32_storage_of_parts, f64_storage_of_parts,
-    is_value_of, logical_type_named, logical_type_of_extension, place_of_word, storage_of_word,
-    storages_of, word_of_storage,
+    DecimalPlace, DecimalType, LogicalType, bytes_of_decimal, decimal_of_bytes,
+    f32_storage_of_parts, f64_storage_of_parts, is_value_of, logical_type_named,
+    logical_type_of_extension, place_among_values, place_of_word, storage_of_word, storages_of,
+    word_of_storage,
 };
 use std::alloc::Global;
 use vortex_dtype::VortexError;
@@ -25,6 +26,7 @@ enum Call {
     IsValue,
     Storages,
     Place,
+    PlaceAmong,
     StorageOfBits,
     BitsOfStorage,
     StorageOfParts,
@@ -32,7 +34,7 @@ enum Call {
     DecimalOfBytes,
 }
 
-const CALLS: [Named<Call, Input>; 13] = [
+const CALLS: [Named<Call, Input>; 14] = [
     ("logical_type", Call::Named, &[Input::Word]),
     ("extension_of", Call::Extension, &[Input::Type]),
     (
@@ -53,6 +55,11 @@ const CALLS: [Named<Call, Input>; 13] = [
     ("is_value_of", Call::IsValue, &[Input::Type, Input::Number]),
     ("storages_of", Call::Storages, &[Input::Type]),
     ("place_of_word", Call::Place, &[Input::Type, Input::Word]),
+    (
+        "place_among_values",
+        Call::PlaceAmong,
+        &[Input::Type, Input::Word],
+    ),
     (
         "storage_of_bits",
         Call::StorageOfBits,
@@ -98,7 +105,14 @@ fn answer_of(
         },
         Call::IsValue => LogicalAnswer::Truth(is_value_of(logical, given.number)),
         Call::Storages => LogicalAnswer::Range(storages_of(logical)),
-        Call::Place => place_answer(logical, word.as_bytes()),
+        Call::Place => match decimal_in(logical) {
+            Some(decimal) => place_or_none(place_of_word(decimal, word.as_bytes())),
+            None => LogicalAnswer::None,
+        },
+        Call::PlaceAmong => match decimal_in(logical) {
+            Some(decimal) => place_or_none(place_among_values(decimal, word.as_bytes())),
+            None => LogicalAnswer::None,
+        },
         Call::StorageOfBits => met(storage_of_bits(logical, given.number)),
         Call::BitsOfStorage => met(bits_of_storage(logical, given.number)),
         Call::StorageOfParts => parts_answer(given),
@@ -122,11 +136,15 @@ fn number_or_none(number: Option<i128>) -> LogicalAnswer {
 }
 
 /// Only decimals have places.
-fn place_answer(logical: LogicalType, word: &[u8]) -> LogicalAnswer {
-    let LogicalType::Decimal(decimal) = logical else {
-        return LogicalAnswer::None;
-    };
-    match place_of_word(decimal, word) {
+fn decimal_in(logical: LogicalType) -> Option<DecimalType> {
+    match logical {
+        LogicalType::Decimal(decimal) => Some(decimal),
+        _ => None,
+    }
+}
+
+fn place_or_none(place: Option<DecimalPlace>) -> LogicalAnswer {
+    match place {
         Some(place) => LogicalAnswer::Place(place),
         None => LogicalAnswer::None,
     }

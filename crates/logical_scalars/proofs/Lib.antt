@@ -1,2 +1,4 @@
+mod Columns
 mod Made
 mod Sorted
+mod TypeNames

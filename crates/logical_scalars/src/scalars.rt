@@ -3,7 +3,8 @@
 
 ghost use Rattle.std.specs.Prelude.{◌≡◌, ◌≢◌, ℤ, IfErr, IfNone, IfOk, IfSome, MatchOption, string_bytes};
 ghost use Rattle.vortex_value.specs.Words.{GivesOrNoMemory, IsMadeOf, IsValid, OutOfMemory, value_tree};
-ghost use Rattle.logical_scalars.specs.Stored.{Holds, logical_tree, raw_storage, storage_tree};
+ghost use Rattle.vortex_dtype.specs.Words.{type_of};
+ghost use Rattle.logical_scalars.specs.Stored.{Holds, IsOfLogicalType, logical_tree, raw_storage, storage_tree};
 ghost use Rattle.logical_types.specs.Extensions.{FitsStorage, storage_type_of};
 ghost use Rattle.logical_types.specs.Words.{IsStorageOf, Writes};
 
@@ -13,7 +14,7 @@ use logical_types::{
     storage_of_word, storage_type, word_of_storage,
 };
 use std::alloc::{AllocError, Global};
-use vortex_dtype::{ByteBuffer, Nullability, VortexError};
+use vortex_dtype::{ByteBuffer, DType, Nullability, VortexError};
 use vortex_pvalue::PValue;
 use vortex_value::{Scalar, ScalarValue};
 
@@ -56,6 +57,55 @@ fn stored(
         StorageType::Bytes => {
             let bytes = ByteBuffer::from_slice(alloc, &bytes_of_decimal(storage))?;
             Ok(Scalar::binary(bytes, nullability))
+        }
+    }
+}
+
+/// The scalar of the value with this storage, of the type of a column, whose zone may have any name.
+/// `OutOfMemory` is the only refusal.
+#[tactic(auto, using(crate::proofs::Columns::columns))]
+pub fn scalar_of_column(
+    alloc: Global,
+    dtype: &DType,
+    logical: LogicalType,
+    storage: i128,
+) -> Result<Scalar, VortexError>
+    requires is { IsOfLogicalType (type_of dtype.now) logical }
+    requires value { IsStorageOf logical storage }
+    ensures made { GivesOrNoMemory (IsMadeOf (type_of dtype.now)
+        (raw_storage (storage_type_of logical) storage)) result }
+    ensures valid { IfOk result IsValid }
+{
+    laws::storages_fit(logical);
+    let value = value_of_storage(alloc, storage_type(logical), storage)?;
+    match dtype.clone(alloc) {
+        Ok(dtype) => Ok(Scalar {
+            dtype,
+            value: Some(value),
+        }),
+        Err(cause) => {
+            drop(value);
+            drop(cause);
+            Err(VortexError::OutOfMemory)
+        }
+    }
+}
+
+/// The raw value of a storage.
+fn value_of_storage(
+    alloc: Global,
+    kind: StorageType,
+    storage: i128,
+) -> Result<ScalarValue, VortexError>
+    requires { FitsStorage kind storage }
+    ensures { GivesOrNoMemory (λ value. value_tree value ≡ raw_storage kind storage) result }
+{
+    match kind {
+        StorageType::I32 => Ok(ScalarValue::Primitive(PValue::I32(storage as i32))),
+        StorageType::I64 => Ok(ScalarValue::Primitive(PValue::I64(storage as i64))),
+        StorageType::Bytes => {
+            let bytes = ByteBuffer::from_slice(alloc, &bytes_of_decimal(storage))?;
+            Ok(ScalarValue::Binary(bytes))
         }
     }
 }

@@ -1,9 +1,12 @@
 -- The place of a number, by its factor of a unit and what is left, as a function of them.
-use Rattle.std.proofs.Common.{◌≡◌, ◌+◌, ◌-◌, ◌<◌, ◌≤◌, ◌==◌, ◌&&◌, ℕ, pos, neg_ℤ, Bool, true, false, not, cond, nat_lt, refl, sym, ap, arith}
+use Rattle.std.proofs.Common.{◌≡◌, ◌+◌, ◌-◌, ◌^◌, ◌<◌, ◌≤◌, ◌==◌, ◌&&◌, ℕ, ℤ, Option, Some, option_map, unsigned_abs, pos, neg_ℤ, Bool, true, false, not, cond, nat_lt, refl, sym, ap, arith}
 use Rattle.std.proofs.lemmas.Bool.Decides.{nat_tests}
-use Rattle.logical_types.specs.Shapes.{place_below_zero, place_from_zero}
+use Rattle.logical_types.specs.Decimals.{decimal_text}
+use Rattle.logical_types.specs.Places.{fine_scale, number_at}
+use Rattle.logical_types.specs.Shapes.{at_value_or, place_at, place_below_zero, place_from_zero, place_in}
 use Rattle.logical_types.specs.declared.decimals.places.DecimalPlace.{DecimalPlace}
 use Rattle.logical_types.specs.declared.decimals.places.DecimalPlace.TheVariants.{At, Behind, BelowAll, AboveAll}
+use Rattle.logical_types.proofs.DecimalsBack.{read_back}
 
 is_zero : (r : ℕ) → r ≡ 0 → (r == 0) ≡ true
 is_zero r e = grind (arith, nat_tests)
@@ -58,3 +61,10 @@ behind_below_is limit f r = between_chosen limit f r (At (neg_ℤ (pos f))) (Beh
 
 pub below_is : (limit f r : ℕ) → (r ≡ 0 → limit ≤ f) → limit - 1 ≤ f → BelowAll ≡ place_below_zero limit f r
 below_is limit f r = none_chosen limit f r (At (neg_ℤ (pos f))) (Behind (neg_ℤ (pos (f + 1)))) BelowAll
+
+-- what is printed of an integer lies at it
+pub integer_there : (z : ℤ) → unsigned_abs z < 10 ^ 38 → place_in 38 0 (decimal_text 0 z) ≡ Some (At z)
+unfolding place_in
+integer_there z h =
+    let w : unsigned_abs z < 10 ^ 64 = omega (arith, h) in
+    ap (λ (o : Option ℤ). at_value_or o (option_map (place_at (10 ^ 38) (10 ^ (fine_scale 0 (decimal_text 0 z) - 0))) (number_at (fine_scale 0 (decimal_text 0 z)) (decimal_text 0 z)))) (read_back (10 ^ 38) 0 z h w)

@@ -7,11 +7,12 @@ ghost use Rattle.logical_types.specs.DecimalWorth.{IsWorth};
 ghost use Rattle.logical_types.specs.Decimals.{decimal_text, decimal_value};
 ghost use Rattle.logical_types.specs.Extensions.{FitsStorage, IsExtension, storage_type_of};
 ghost use Rattle.logical_types.specs.Places.{IsPlaceOfWord, fine_scale};
-ghost use Rattle.logical_types.specs.Shapes.{Shape, shape_of, shape_of_extension, storage_in};
+ghost use Rattle.logical_types.specs.Shapes.{Shape, place_in, shape_of, shape_of_extension, storage_in};
 ghost use Rattle.logical_types.specs.declared.logical.LogicalType.{LogicalType as LogicalTypes};
 ghost use Rattle.logical_types.specs.Storing.{decimal_bytes};
 ghost use Rattle.logical_types.specs.Words.{IsStorageOf, Writes};
 ghost use Rattle.logical_types.specs.declared.decimals.places.DecimalPlace.{DecimalPlace};
+ghost use Rattle.logical_types.specs.declared.decimals.places.DecimalPlace.TheVariants.{At};
 ghost use Rattle.logical_types.specs.declared.extensions.StorageType.{StorageType};
 ghost use Rattle.std.specs.Cmp.Lexicographic.{slice_cmp};
 ghost use Rattle.std.specs.Ordering.{int_cmp, nat_cmp};
@@ -77,4 +78,10 @@ pub fn shapes_say_extensions()
     ensures whole { (id metadata : List ℕ) (kind : StorageType) (shape : Shape)
         → shape_of_extension id metadata kind ≡ Some shape
         → (l : LogicalTypes) × (shape_of l ≡ shape) }
+{}
+
+/// What is printed of an integer lies at it.
+pub fn integers_lie_at_themselves()
+    ensures { (z : ℤ) → unsigned_abs z < 10 ^ 38
+        → place_in 38 0 (decimal_text 0 z) ≡ Some (At z) }
 {}
