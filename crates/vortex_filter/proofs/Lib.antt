@@ -7,6 +7,7 @@ pub mod ExtensionSteps
 pub mod FitProofs
 pub mod LiteralLaws
 pub mod LiteralSteps
+pub mod LiteralTypes
 pub mod Loops
 pub mod MakeSteps
 pub mod PositionLaws

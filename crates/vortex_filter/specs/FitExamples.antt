@@ -3,9 +3,10 @@ use Rattle.std.specs.Prelude.{◌≡◌, ℕ, pos, negsuc, true, false, [], ◌�
 use Rattle.std.specs.declared.cmp.Ordering.TheVariants.{Less, Greater}
 use Rattle.vortex_dtype.specs.TypeTree.{TypeTree, extension_type, integer_type, list_type}
 use Rattle.vortex_dtype.specs.declared.nullability.Nullability.TheVariants.{NonNullable, Nullable}
-use Rattle.vortex_dtype.specs.declared.ptype.PType.TheVariants.{I16, I64, U8}
+use Rattle.vortex_dtype.specs.declared.ptype.PType.TheVariants.{I16, I32, I64, U8}
 use Rattle.vortex_value.specs.Values.Content.{null, whole}
 use Rattle.vortex_cells.specs.Cells.{Cell}
+use Rattle.logical_types.specs.Shapes.{place_in}
 use Rattle.vortex_filter.specs.declared.operator.CompareOperator.TheVariants.{Eq, NotEq, Gt, Gte, Lt, Lte}
 use Rattle.vortex_filter.specs.declared.truth.Truth.TheVariants.{Unknown, True}
 use Rattle.vortex_filter.specs.Checking.{comparing, nothing, tests}
@@ -92,42 +93,67 @@ storages_in_list = refl
 -- ---- literals as they are written
 
 -- a number of the type; 100000, which each i16 is below; and -1, which each u8 is above
-number_there : position_of (integer_type I16 Nullable) (number_literal (pos 5)) ≡ Some (exactly (number_cell I16 (pos 5)))
+number_there : position_of (integer_type I16 Nullable) (number_literal (codes "5")) ≡ Some (exactly (number_cell I16 (pos 5)))
+unfolding place_in
 number_there = refl
 
-number_above : position_of (integer_type I16 Nullable) (number_literal (pos 100000)) ≡ Some (lacking Less)
+number_above : position_of (integer_type I16 Nullable) (number_literal (codes "100000")) ≡ Some (lacking Less)
+unfolding place_in
 number_above = refl
 
-number_below : position_of (integer_type U8 NonNullable) (number_literal (negsuc 0)) ≡ Some (lacking Greater)
+number_below : position_of (integer_type U8 NonNullable) (number_literal (codes "-1")) ≡ Some (lacking Greater)
+unfolding place_in
 number_below = refl
 
--- a null is of any type, made nullable, and a string of strings alone
+-- between two integers, and between the greatest and what is no u8
+between_integers : position_of (integer_type U8 NonNullable) (number_literal (codes "10.5")) ≡ Some (just_above (number_cell U8 (pos 10)))
+unfolding place_in
+between_integers = refl
+
+above_greatest : position_of (integer_type U8 NonNullable) (number_literal (codes "255.5")) ≡ Some (lacking Less)
+unfolding place_in
+above_greatest = refl
+
+-- a null is of any type, made nullable; a string in a column of numbers is its number, if it writes one
 null_there : position_of (integer_type I16 NonNullable) null_literal ≡ Some (exactly no_short)
 null_there = refl
 
-text_of_number : position_of (integer_type I16 NonNullable) (text_literal []) ≡ None
+text_of_number : position_of (integer_type I16 NonNullable) (text_literal (codes "5")) ≡ Some (exactly (number_cell I16 (pos 5)))
+unfolding place_in
 text_of_number = refl
 
--- ---- literals between two values
+text_of_none : position_of (integer_type I16 NonNullable) (text_literal (codes "five")) ≡ None
+unfolding place_in
+text_of_none = refl
 
--- 12.345 at two places lies just above 12.34, which stores 1234
-abbrev price : Cell
-price = record { typed = integer_type I64 NonNullable; content = whole (pos 1234) }
+-- ---- decimals of ten digits, two of them behind the point
 
-below_between : comparison_of 0 Lt (just_above price) ≡ comparison 0 Lte price
-below_between = refl
+abbrev prices : TypeTree
+prices = extension_type (codes "doqallin.decimal") (10 ∷ 2 ∷ []) (integer_type I64 Nullable)
 
-from_between : comparison_of 0 Gte (just_above price) ≡ comparison 0 Gt price
-from_between = refl
+abbrev cents : ℕ → Cell
+cents n = record { typed = prices; content = whole (pos n) }
 
-equal_between : comparison_of 0 Eq (just_above price) ≡ both (null_test 0) (constant Unknown)
-equal_between = refl
+price_there : position_of prices (number_literal (codes "12.30")) ≡ Some (exactly (cents 1230))
+unfolding place_in
+price_there = refl
 
-other_between : comparison_of 0 NotEq (just_above price) ≡ either (negation (null_test 0)) (constant Unknown)
-other_between = refl
+whole_price : position_of prices (number_literal (codes "10")) ≡ Some (exactly (cents 1000))
+unfolding place_in
+whole_price = refl
 
-range_between : range_of 0 (exactly (long 5)) (just_above price) ≡ both (comparison 0 Gte (long 5)) (comparison 0 Lte price)
-range_between = refl
+price_between : position_of prices (number_literal (codes "12.345")) ≡ Some (just_above (cents 1234))
+unfolding place_in
+price_between = refl
 
-member_between : member_among 0 (exactly (long 5) ∷ just_above price ∷ []) ≡ membership 0 (long 5 ∷ [])
-member_between = refl
+price_in_quotes : position_of prices (text_literal (codes "12.30")) ≡ Some (exactly (cents 1230))
+unfolding place_in
+price_in_quotes = refl
+
+above_prices : position_of prices (number_literal (codes "100000000")) ≡ Some (lacking Less)
+unfolding place_in
+above_prices = refl
+
+-- a number is no day
+no_day : position_of (extension_type (codes "vortex.date") (4 ∷ []) (integer_type I32 Nullable)) (number_literal (codes "2026")) ≡ None
+no_day = refl

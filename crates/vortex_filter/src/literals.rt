@@ -1,13 +1,25 @@
 //! Literals as they are written, and where they stand among the values of a column's type.
 
-ghost use Rattle.std.specs.Prelude.{◌≡◌, IfErr, IfOk, MatchResult, Some, option_map};
+ghost use Rattle.std.specs.Prelude.{◌≡◌, ◌<◌, ◌^◌, IfErr, IfOk, MatchResult, Some, option_map, unsigned_abs};
+ghost use Rattle.logical_scalars.specs.Stored.{IsOfLogicalType};
+ghost use Rattle.logical_types.specs.Shapes.{IsAmong, shape_of};
+ghost use Rattle.logical_types.specs.Words.{IsStorageOf};
 ghost use Rattle.vortex_filter.specs.FilterLiterals.{AreValid};
-ghost use Rattle.vortex_filter.specs.Literals.{bytes_in, literal_tree, null_cell, number_in, number_position};
-ghost use Rattle.vortex_filter.specs.Literals.{position_of, scalars_in, text_in, truth_in};
+ghost use Rattle.logical_types.specs.declared.logical.LogicalType.TheVariants as LogicalTypes;
+ghost use Rattle.vortex_filter.specs.Literals.{bytes_in, decimal_at, gap_position, integer_at, integer_in};
+ghost use Rattle.vortex_filter.specs.Literals.{integer_position, literal_tree, logical_cell, null_cell, number_cell};
+ghost use Rattle.vortex_filter.specs.Literals.{number_in, number_of_shape, number_of_type, position_of, scalars_in};
+ghost use Rattle.vortex_filter.specs.Literals.{text_cell, text_in, text_of_shape, text_of_type, truth_in};
+ghost use Rattle.vortex_filter.specs.Literals.{written_value};
 ghost use Rattle.vortex_filter.specs.Positions.{exactly, position_tree, scalars_of};
-ghost use Rattle.vortex_filter.specs.Words.{OutOfMemory, as_nullable, type_of};
+ghost use Rattle.vortex_filter.specs.Words.{IsValid, OutOfMemory, as_nullable, cell_of, type_of};
 
 use crate::error::FilterError;
+use logical_scalars::laws::shapes_say_types;
+use logical_scalars::{logical_type_of, scalar_of_column};
+use logical_types::{
+    DecimalPlace, DecimalType, LogicalType, laws, place_among_values, storage_of_word,
+};
 use std::alloc::Global;
 use std::cmp::Ordering;
 use vortex_dtype::{BufferString, ByteBuffer, DType, Nullability, PType};
@@ -21,9 +33,9 @@ pub enum Literal<'a> {
     Null,
     /// A truth value.
     Bool(bool),
-    /// A whole number.
-    Number(i128),
-    /// A string.
+    /// A number, by its word: `10`, `-0.5`, `1e30`.
+    Number(&'a str),
+    /// A string. In a column of numbers, days or times it is the value that it writes.
     Text(&'a str),
     /// Bytes.
     Bytes(&'a [u8]),
@@ -42,8 +54,10 @@ pub enum Position {
 
 impl Literal<'_> {
     /// Where the literal stands among the values of a type: at one that is not nullable, at the null
-    /// of the type made nullable, or at a number that the type lacks. `None` if values of the type
-    /// are not written so.
+    /// of the type made nullable, between two values, or below or above all of them. `None` if values
+    /// of the type are not written so: a number in a column of integers or decimals has no exponent
+    /// and at most 38 digits, and one in a column of floats is not so great that the nearest is
+    /// infinity.
     ///
     /// `OutOfMemory` is its only refusal.
     pub fn position(self, alloc: Global, dtype: &DType) -> Result<Option<Position>, FilterError>
@@ -55,7 +69,7 @@ impl Literal<'_> {
         match self {
             Literal::Null => null_in(alloc, dtype),
             Literal::Bool(truth) => Ok(truth_in(dtype, truth)),
-            Literal::Number(number) => Ok(number_in(dtype, number)),
+            Literal::Number(word) => number_in(alloc, dtype, word),
             Literal::Text(text) => text_in(alloc, dtype, text),
             Literal::Bytes(bytes) => bytes_in(alloc, dtype, bytes),
         }
@@ -101,20 +115,55 @@ fn truth_in(dtype: &DType, truth: bool) -> Option<Position>
     }
 }
 
-/// A number, in a column of integers.
-fn number_in(dtype: &DType, number: i128) -> Option<Position>
-    ensures value { option_map position_tree result ≡ number_in (type_of dtype.now) number }
-    ensures valid { AreValid (scalars_in result) }
+// ---- numbers
+
+/// A number, in a column of numbers.
+fn number_in(alloc: Global, dtype: &DType, word: &str) -> Result<Option<Position>, FilterError>
+    ensures value { IfOk result (λ found.
+        option_map position_tree found ≡ number_in (type_of dtype.now) word.now) }
+    ensures valid { IfOk result (λ found. AreValid (scalars_in found)) }
+    ensures refused { IfErr result (λ e. e ≡ OutOfMemory) }
 {
     match dtype {
-        DType::Primitive(ptype, _) => Some(number_position(*ptype, number)),
-        _ => None,
+        DType::Primitive(ptype, _) => Ok(integer_in(*ptype, word)),
+        DType::Extension(_) => number_of_type(alloc, dtype, word),
+        _ => Ok(None),
     }
 }
 
 /// A number among those of an integer type.
-fn number_position(ptype: PType, number: i128) -> Position
-    ensures value { position_tree result ≡ number_position ptype number }
+#[tactic(auto, using(crate::proofs::LiteralTypes::places))]
+fn integer_in(ptype: PType, word: &str) -> Option<Position>
+    ensures value { option_map position_tree result ≡ integer_in ptype word.now }
+    ensures valid { AreValid (scalars_in result) }
+{
+    let whole = DecimalType {
+        precision: 38,
+        scale: 0,
+    };
+    match place_among_values(whole, word.as_bytes()) {
+        Some(place) => Some(integer_at(ptype, place)),
+        None => None,
+    }
+}
+
+/// A number among the integers of a type, by its place among all integers.
+fn integer_at(ptype: PType, place: DecimalPlace) -> Position
+    requires { IsAmong (10 ^ 38) place }
+    ensures value { position_tree result ≡ integer_at ptype place }
+    ensures valid { AreValid (scalars_of result) }
+{
+    match place {
+        DecimalPlace::At(number) => integer_position(ptype, number),
+        DecimalPlace::Behind(number) => gap_position(ptype, number),
+        DecimalPlace::BelowAll => Position::Lacking(Ordering::Greater),
+        DecimalPlace::AboveAll => Position::Lacking(Ordering::Less),
+    }
+}
+
+/// An integer among those of a type.
+fn integer_position(ptype: PType, number: i128) -> Position
+    ensures value { position_tree result ≡ integer_position ptype number }
     ensures valid { AreValid (scalars_of result) }
 {
     match PValue::from_whole(number, ptype) {
@@ -126,7 +175,155 @@ fn number_position(ptype: PType, number: i128) -> Position
     }
 }
 
-/// A string, in a column of strings.
+/// What lies between an integer and the next among those of a type.
+fn gap_position(ptype: PType, number: i128) -> Position
+    requires { unsigned_abs number < 10 ^ 38 }
+    ensures value { position_tree result ≡ gap_position ptype number }
+    ensures valid { AreValid (scalars_of result) }
+{
+    if PValue::from_whole(number + 1, ptype).is_none() {
+        return Position::Lacking(0i128.cmp(&number));
+    }
+    match PValue::from_whole(number, ptype) {
+        Some(value) => Position::JustAbove(Scalar {
+            dtype: DType::Primitive(ptype, Nullability::NonNullable),
+            value: Some(ScalarValue::Primitive(value)),
+        }),
+        None => Position::Lacking(0i128.cmp(&number)),
+    }
+}
+
+/// A number in a column of some logical type.
+fn number_of_type(alloc: Global, dtype: &DType, word: &str) -> Result<Option<Position>, FilterError>
+    ensures value { IfOk result (λ found.
+        option_map position_tree found ≡ number_of_type (type_of dtype.now) word.now) }
+    ensures valid { IfOk result (λ found. AreValid (scalars_in found)) }
+    ensures refused { IfErr result (λ e. e ≡ OutOfMemory) }
+{
+    shapes_say_types();
+    match logical_type_of(dtype) {
+        Some(logical) => number_of_logical(alloc, dtype, logical, word),
+        None => Ok(None),
+    }
+}
+
+/// A number in a column of a logical type.
+fn number_of_logical(
+    alloc: Global,
+    dtype: &DType,
+    logical: LogicalType,
+    word: &str,
+) -> Result<Option<Position>, FilterError>
+    requires { IsOfLogicalType (type_of dtype.now) logical }
+    ensures value { IfOk result (λ found. option_map position_tree found
+        ≡ number_of_shape (type_of dtype.now) (shape_of logical) word.now) }
+    ensures valid { IfOk result (λ found. AreValid (scalars_in found)) }
+    ensures refused { IfErr result (λ e. e ≡ OutOfMemory) }
+{
+    match logical {
+        LogicalType::Float64 | LogicalType::Float32 => written(alloc, dtype, logical, word),
+        LogicalType::Decimal(decimal) => decimal_in(alloc, dtype, decimal, word),
+        LogicalType::Date | LogicalType::Time(_) | LogicalType::Timestamp { .. } => Ok(None),
+    }
+}
+
+/// The value that a word writes.
+fn written(
+    alloc: Global,
+    dtype: &DType,
+    logical: LogicalType,
+    word: &str,
+) -> Result<Option<Position>, FilterError>
+    requires { IsOfLogicalType (type_of dtype.now) logical }
+    ensures value { IfOk result (λ found. option_map position_tree found
+        ≡ written_value (type_of dtype.now) (shape_of logical) word.now) }
+    ensures valid { IfOk result (λ found. AreValid (scalars_in found)) }
+    ensures refused { IfErr result (λ e. e ≡ OutOfMemory) }
+{
+    laws::shapes_say_words();
+    match storage_of_word(logical, word.as_bytes()) {
+        Some(storage) => match logical_scalar(alloc, dtype, logical, storage) {
+            Ok(scalar) => Ok(Some(Position::Exactly(scalar))),
+            Err(cause) => Err(cause),
+        },
+        None => Ok(None),
+    }
+}
+
+/// A number among decimals.
+fn decimal_in(
+    alloc: Global,
+    dtype: &DType,
+    decimal: DecimalType,
+    word: &str,
+) -> Result<Option<Position>, FilterError>
+    requires { IsOfLogicalType (type_of dtype.now) (LogicalTypes.Decimal decimal) }
+    ensures value { IfOk result (λ found. option_map position_tree found
+        ≡ number_of_shape (type_of dtype.now) (shape_of (LogicalTypes.Decimal decimal)) word.now) }
+    ensures valid { IfOk result (λ found. AreValid (scalars_in found)) }
+    ensures refused { IfErr result (λ e. e ≡ OutOfMemory) }
+{
+    match place_among_values(decimal, word.as_bytes()) {
+        Some(place) => decimal_at(alloc, dtype, decimal, place),
+        None => Ok(None),
+    }
+}
+
+/// A number among decimals, by its place.
+fn decimal_at(
+    alloc: Global,
+    dtype: &DType,
+    decimal: DecimalType,
+    place: DecimalPlace,
+) -> Result<Option<Position>, FilterError>
+    requires is { IsOfLogicalType (type_of dtype.now) (LogicalTypes.Decimal decimal) }
+    requires within { IsAmong (10 ^ decimal.precision) place }
+    ensures value { IfOk result (λ found. option_map position_tree found
+        ≡ Some (decimal_at (type_of dtype.now) (shape_of (LogicalTypes.Decimal decimal)) place)) }
+    ensures valid { IfOk result (λ found. AreValid (scalars_in found)) }
+    ensures refused { IfErr result (λ e. e ≡ OutOfMemory) }
+{
+    let logical = LogicalType::Decimal(decimal);
+    match place {
+        DecimalPlace::At(storage) => match logical_scalar(alloc, dtype, logical, storage) {
+            Ok(scalar) => Ok(Some(Position::Exactly(scalar))),
+            Err(cause) => Err(cause),
+        },
+        DecimalPlace::Behind(storage) => match logical_scalar(alloc, dtype, logical, storage) {
+            Ok(scalar) => Ok(Some(Position::JustAbove(scalar))),
+            Err(cause) => Err(cause),
+        },
+        DecimalPlace::BelowAll => Ok(Some(Position::Lacking(Ordering::Greater))),
+        DecimalPlace::AboveAll => Ok(Some(Position::Lacking(Ordering::Less))),
+    }
+}
+
+/// The value of a logical type with this storage, as a scalar of the column's type.
+fn logical_scalar(
+    alloc: Global,
+    dtype: &DType,
+    logical: LogicalType,
+    storage: i128,
+) -> Result<Scalar, FilterError>
+    requires is { IsOfLogicalType (type_of dtype.now) logical }
+    requires value { IsStorageOf logical storage }
+    ensures cell { IfOk result (λ x. cell_of x
+        ≡ logical_cell (type_of dtype.now) (shape_of logical) storage) }
+    ensures valid { IfOk result IsValid }
+    ensures refused { IfErr result (λ e. e ≡ OutOfMemory) }
+{
+    match scalar_of_column(alloc, dtype, logical, storage) {
+        Ok(scalar) => Ok(scalar),
+        Err(cause) => {
+            drop(cause);
+            Err(FilterError::OutOfMemory)
+        }
+    }
+}
+
+// ---- strings and bytes
+
+/// A string, in a column of strings, or of values that it can write.
 fn text_in(alloc: Global, dtype: &DType, text: &str) -> Result<Option<Position>, FilterError>
     ensures value { IfOk result (λ found.
         option_map position_tree found ≡ text_in (type_of dtype.now) text.now) }
@@ -134,17 +331,66 @@ fn text_in(alloc: Global, dtype: &DType, text: &str) -> Result<Option<Position>,
     ensures refused { IfErr result (λ e. e ≡ OutOfMemory) }
 {
     match dtype {
-        DType::Utf8(_) => match BufferString::from_str(alloc, text) {
-            Ok(text) => {
-                let scalar = Scalar::utf8(text, Nullability::NonNullable);
-                Ok(Some(Position::Exactly(scalar)))
-            }
-            Err(cause) => {
-                drop(cause);
-                Err(FilterError::OutOfMemory)
-            }
-        },
+        DType::Utf8(_) => string_in(alloc, text),
+        DType::Primitive(ptype, _) => Ok(integer_in(*ptype, text)),
+        DType::Extension(_) => text_of_type(alloc, dtype, text),
         _ => Ok(None),
+    }
+}
+
+/// A string in a column of some logical type.
+fn text_of_type(alloc: Global, dtype: &DType, text: &str) -> Result<Option<Position>, FilterError>
+    ensures value { IfOk result (λ found.
+        option_map position_tree found ≡ text_of_type (type_of dtype.now) text.now) }
+    ensures valid { IfOk result (λ found. AreValid (scalars_in found)) }
+    ensures refused { IfErr result (λ e. e ≡ OutOfMemory) }
+{
+    shapes_say_types();
+    match logical_type_of(dtype) {
+        Some(logical) => text_of_logical(alloc, dtype, logical, text),
+        None => Ok(None),
+    }
+}
+
+/// A string in a column of a logical type: in one of numbers it is its number.
+fn text_of_logical(
+    alloc: Global,
+    dtype: &DType,
+    logical: LogicalType,
+    text: &str,
+) -> Result<Option<Position>, FilterError>
+    requires { IsOfLogicalType (type_of dtype.now) logical }
+    ensures value { IfOk result (λ found. option_map position_tree found
+        ≡ text_of_shape (type_of dtype.now) (shape_of logical) text.now) }
+    ensures valid { IfOk result (λ found. AreValid (scalars_in found)) }
+    ensures refused { IfErr result (λ e. e ≡ OutOfMemory) }
+{
+    match logical {
+        LogicalType::Date | LogicalType::Time(_) | LogicalType::Timestamp { .. } => {
+            written(alloc, dtype, logical, text)
+        }
+        LogicalType::Float64 | LogicalType::Float32 | LogicalType::Decimal(_) => {
+            number_of_logical(alloc, dtype, logical, text)
+        }
+    }
+}
+
+/// A string of a column of strings.
+fn string_in(alloc: Global, text: &str) -> Result<Option<Position>, FilterError>
+    ensures value { IfOk result (λ found.
+        option_map position_tree found ≡ Some (exactly (text_cell text.now))) }
+    ensures valid { IfOk result (λ found. AreValid (scalars_in found)) }
+    ensures refused { IfErr result (λ e. e ≡ OutOfMemory) }
+{
+    match BufferString::from_str(alloc, text) {
+        Ok(text) => {
+            let scalar = Scalar::utf8(text, Nullability::NonNullable);
+            Ok(Some(Position::Exactly(scalar)))
+        }
+        Err(cause) => {
+            drop(cause);
+            Err(FilterError::OutOfMemory)
+        }
     }
 }
 

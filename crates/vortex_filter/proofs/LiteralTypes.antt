@@ -1,0 +1,97 @@
+-- Literals in columns of logical types.
+use Rattle.std.proofs.Common.{◌≡◌, ◌↔◌, ℤ, List, ℕ, Option, Some, None, Result, Ok, Err, IfOk, option_and_then, option_map, refl, sym, subst, ap, ap₂, ◌∙◌}
+use Rattle.vortex_dtype.specs.TypeTree.{TypeTree}
+use Rattle.vortex_dtype.specs.declared.ptype.PType.{PType}
+use Rattle.vortex_value.specs.Values.Content.{Content, content}
+use Rattle.vortex_value.specs.Values.Scalars.{IsMadeOf, scalar_content}
+use Rattle.vortex_value.specs.declared.scalars.Scalar.{Scalar}
+use Rattle.vortex_cells.specs.Cells.{Cell, cell_of}
+use Rattle.logical_scalars.specs.Stored.{IsOfLogicalType, raw_storage}
+use Rattle.logical_scalars.specs.TypeShapes.{shape_in}
+use Rattle.logical_types.specs.Extensions.{storage_type_of}
+use Rattle.logical_types.specs.Shapes.{Shape, place_in, shape_of, storage_in, stored_as}
+use Rattle.logical_types.specs.Words.{Writes}
+use Rattle.logical_types.specs.declared.decimals.places.DecimalPlace.{DecimalPlace}
+use Rattle.logical_types.specs.declared.extensions.StorageType.{StorageType}
+use Rattle.logical_types.specs.declared.extensions.StorageType.TheVariants.{I32, I64, Bytes}
+use Rattle.logical_types.specs.declared.logical.LogicalType.{LogicalType}
+use Rattle.logical_types.specs.declared.logical.LogicalType.TheVariants.{Float64, Float32, Decimal, Date, Time, Timestamp}
+use Rattle.logical_types.specs.declared.times.TimeUnit.TheVariants.{Seconds, Milliseconds, Microseconds, Nanoseconds}
+use Rattle.vortex_filter.specs.declared.error.FilterError.{FilterError}
+use Rattle.vortex_filter.specs.declared.literals.Position.{Position}
+use Rattle.vortex_filter.specs.Literals.{integer_at, integer_in, logical_cell, storage_content, written_value}
+use Rattle.vortex_filter.specs.Positions.{PositionTree, exactly, position_tree}
+
+-- ---- the shape of a type
+
+abbrev pub TypesSay : Type 0
+TypesSay = (l : LogicalType) (t : TypeTree) → (shape_in t ≡ Some (shape_of l)) ↔ IsOfLogicalType t l
+
+abbrev pub TypesAre : Type 0
+TypesAre = (t : TypeTree) (s : Shape) → shape_in t ≡ Some s → (l : LogicalType) × (shape_of l ≡ s)
+
+pub unshaped : TypesSay → TypesAre → (t : TypeTree) → ((l : LogicalType) → IsOfLogicalType t l → ⊥) → shape_in t ≡ None
+unshaped says are t none = by_shape (shape_in t) refl
+  where
+    by_shape : (o : Option Shape) → shape_in t ≡ o → o ≡ None
+    by_shape None h = refl
+    by_shape (Some s) h = let l = are t s h in absurd (none l.0 ((says l.0 t).0 (h ∙ ap Some (sym l.1))))
+
+-- where a literal stands by the shape, it stands by the type
+abbrev Stands : Option PositionTree → Result (Option Position) FilterError → Type 0
+Stands o r = IfOk r (λ found. option_map position_tree found ≡ o)
+
+pub by_shape : (f : Shape → Option PositionTree) (t : TypeTree) (s : Shape) (r : Result (Option Position) FilterError) → shape_in t ≡ Some s → Stands (f s) r → Stands (option_and_then f (shape_in t)) r
+by_shape f t s r e h = subst (λ (o : Option Shape). Stands (option_and_then f o) r) (sym e) h
+
+pub by_none : (f : Shape → Option PositionTree) (t : TypeTree) → shape_in t ≡ None → ◌≡◌ {A = Option PositionTree} None (option_and_then f (shape_in t))
+by_none f t e = sym (ap (option_and_then f) e)
+
+-- ---- the cell of a scalar
+
+storage_is : (l : LogicalType) → storage_type_of l ≡ stored_as (shape_of l)
+storage_is Float64 = refl
+storage_is Float32 = refl
+storage_is (Decimal d) = refl
+storage_is Date = refl
+storage_is (Time Seconds) = refl
+storage_is (Time Milliseconds) = refl
+storage_is (Time Microseconds) = refl
+storage_is (Time Nanoseconds) = refl
+storage_is (Timestamp unit zoned) = refl
+
+content_is : (k : StorageType) (z : ℤ) → content (raw_storage k z) ≡ storage_content k z
+content_is I32 z = refl
+content_is I64 z = refl
+content_is Bytes z = refl
+
+abbrev cell_from : TypeTree → Content → Cell
+cell_from t c = record { typed = t; content = c }
+
+pub made_cell : (t : TypeTree) (l : LogicalType) (z : ℤ) (x : Scalar) → IsMadeOf t (raw_storage (storage_type_of l) z) x → cell_of x ≡ logical_cell t (shape_of l) z
+made_cell t l z x m = ap₂ cell_from m.typed (ap content m.value ∙ content_is (storage_type_of l) z ∙ ap (λ (k : StorageType). storage_content k z) (storage_is l))
+
+-- ---- words
+
+abbrev pub WordsSay : Type 0
+WordsSay = (l : LogicalType) (word : List ℕ) (z : ℤ) → (storage_in (shape_of l) word ≡ Some z) ↔ Writes l word z
+
+pub word_there : WordsSay → (t : TypeTree) (l : LogicalType) (word : List ℕ) (z : ℤ) (x : Scalar) → Writes l word z → cell_of x ≡ logical_cell t (shape_of l) z → Some (exactly (cell_of x)) ≡ written_value t (shape_of l) word
+word_there says t l word z x w e = ap (λ (c : Cell). Some (exactly c)) e ∙ sym (ap (option_map (λ (y : ℤ). exactly (logical_cell t (shape_of l) y))) ((says l word z).1 w))
+
+pub word_absent : WordsSay → (t : TypeTree) (l : LogicalType) (word : List ℕ) → ((z : ℤ) → Writes l word z → ⊥) → ◌≡◌ {A = Option PositionTree} None (written_value t (shape_of l) word)
+word_absent says t l word none = by_storage (storage_in (shape_of l) word) refl
+  where
+    by_storage : (o : Option ℤ) → storage_in (shape_of l) word ≡ o → ◌≡◌ {A = Option PositionTree} None (option_map (λ (y : ℤ). exactly (logical_cell t (shape_of l) y)) (storage_in (shape_of l) word))
+    by_storage None h = sym (ap (option_map (λ (y : ℤ). exactly (logical_cell t (shape_of l) y))) h)
+    by_storage (Some z) h = absurd (none z ((says l word z).0 h))
+
+-- ---- places
+
+pub place_there : (k : PType) (word : List ℕ) (place : DecimalPlace) (p : Position) → Some place ≡ place_in 38 0 word → position_tree p ≡ integer_at k place → Some (position_tree p) ≡ integer_in k word
+place_there k word place p e h = ap Some h ∙ ap (option_map (integer_at k)) e
+
+pub place_absent : (k : PType) (word : List ℕ) → ◌≡◌ {A = Option DecimalPlace} None (place_in 38 0 word) → ◌≡◌ {A = Option PositionTree} None (integer_in k word)
+place_absent k word e = ap (option_map (integer_at k)) e
+
+pub ruleset places = (place_there, place_absent)
