@@ -1,9 +1,9 @@
 -- What is spelled as a token says is read as that token.
-use Rattle.std.proofs.Common.{◌≡◌, ◌⊎◌, inl, inr, ℕ, ◌+◌, ◌<◌, ◌^◌, ◌||◌, ◌&&◌, List, [], ◌∷◌, ◌++◌, Some, None, Bool, true, false, not, Ok, append_assoc, add-one, nat_lt, length-append, length, get_or, take, drop, map, refl, sym, ap, ◌∙◌, arith, ◌==◌}
+use Rattle.std.proofs.Common.{◌≡◌, ◌⊎◌, inl, inr, ℕ, ◌+◌, ◌-◌, ◌<◌, ◌||◌, ◌&&◌, List, [], ◌∷◌, ◌++◌, Some, None, Option, IfSome, option_and_then, Bool, true, false, not, Ok, append_assoc, add-one, nat_lt, length-append, length, get_or, take, drop, map, refl, sym, ap, ◌∙◌, arith, ◌==◌}
 use Rattle.std.specs.Char.{is_ascii_digit, to_ascii_lowercase}
 use Rattle.std.specs.List.{AllByRecursion, prefix_len, position_or_len, list_all, find}
 use Rattle.std.specs.Str.{bytes_eq}
-use Rattle.std.specs.Str.Parse.{AllDigits, IsNumeral, digits_value}
+use Rattle.std.specs.Str.Parse.{AllDigits, IsNumeral}
 use Rattle.std.proofs.lemmas.Bool.Decides.{nat_tests}
 use Rattle.std.proofs.lemmas.Str.Parse.{digit_from_value}
 use Rattle.std.proofs.lemmas.List.Elements.{recursion_from_All}
@@ -15,8 +15,8 @@ use Rattle.vortex_filter.specs.declared.operator.CompareOperator.{CompareOperato
 use Rattle.vortex_filter.specs.declared.operator.CompareOperator.TheVariants as operators
 use Rattle.filter_sql.specs.declared.token.Keyword.{Keyword}
 use Rattle.filter_sql.specs.declared.token.Keyword.TheVariants as keywords
-use Rattle.filter_sql.specs.Tokens.{TokenTree, keyword_token, name_token, integer_token, string_token, bytes_token, operator_token, opening, closing, comma, verbatim, all_keywords, keyword_text, keyword_named, doubled, quoted, sign_text, is_word, is_word_byte, is_word_start, is_x, name_goes_on, goes_on, IsBareName, Spells}
-use Rattle.filter_sql.specs.Lexing.{bytes_at, integer_at, is_quote, mark_of, other_at, parameter_at, signed_at, token_at, unquoted_at, with_byte, word_at, word_token}
+use Rattle.filter_sql.specs.Tokens.{TokenTree, keyword_token, name_token, number_token, string_token, bytes_token, operator_token, opening, closing, comma, verbatim, all_keywords, keyword_text, keyword_named, doubled, quoted, sign_text, Power, Sign, no_sign, plus_sign, minus_sign, IsNumber, IsPower, fraction_text, is_e, is_point, number_goes_on, power_sign, power_text, is_word, is_word_byte, is_word_start, is_x, name_goes_on, goes_on, IsBareName, Spells}
+use Rattle.filter_sql.specs.Lexing.{after_digits, after_fraction, after_minus, after_number, after_power, after_sign, bytes_at, is_quote, mark_of, number_at, other_at, parameter_at, token_at, unquoted_at, with_byte, word_at, word_token}
 
 -- ---- runs
 
@@ -38,7 +38,7 @@ pub drop_word : (word rest : List ℕ) → drop (length word) (word ++ rest) ≡
 drop_word [] rest = refl
 drop_word (b ∷ word) rest = drop_word word rest
 
-digits_pass : (digits : List ℕ) → AllDigits 10 digits → AllPassing is_ascii_digit digits
+pub digits_pass : (digits : List ℕ) → AllDigits 10 digits → AllPassing is_ascii_digit digits
 digits_pass [] all = tt
 digits_pass (c ∷ cs) all =
     let range = digit_from_value c all.0 in
@@ -47,14 +47,101 @@ digits_pass (c ∷ cs) all =
 
 -- ---- numbers
 
-number_again : (negative : Bool) (digits rest : List ℕ) → IsNumeral 10 digits → digits_value 10 digits < 2 ^ 64 → is_ascii_digit (get_or rest 0 0) ≡ false
-    → integer_at negative (digits ++ rest) ≡ Ok (integer_token negative (digits_value 10 digits), rest)
-unfolding integer_at
-number_again negative digits rest numeral small stops =
+digits_again : (digits rest : List ℕ) → IsNumeral 10 digits → is_ascii_digit (get_or rest 0 0) ≡ false → after_digits (digits ++ rest) ≡ Some rest
+unfolding after_digits
+digits_again digits rest numeral stops =
     let count = run_len is_ascii_digit digits rest (digits_pass digits numeral.1) stops in
     let some : (length digits == 0) ≡ false = grind (arith, nat_tests, numeral.0) in
-    let fits : nat_lt (digits_value 10 digits) (2 ^ 64) ≡ true = grind (arith, nat_tests) in
-    rw (count, some, take_word digits rest, drop_word digits rest, fits) refl
+    rw (count, some, drop_word digits rest) refl
+
+-- what may stand behind a number
+record IsOutside (next : ℕ) : Type 0 where
+  pub digit : is_ascii_digit next ≡ false
+  pub point : is_point next ≡ false
+  pub power : is_e next ≡ false
+
+no_or : (a b : Bool) → (a || b) ≡ false → (a ≡ false) × (b ≡ false)
+no_or false b h = (refl, h)
+no_or true b h = cc
+
+outside : (next : ℕ) → number_goes_on next ≡ false → IsOutside next
+outside next h =
+    let a = no_or (is_ascii_digit next) (is_point next || is_e next) h in
+    let b = no_or (is_point next) (is_e next) a.1 in
+    record { digit = a.0; point = b.0; power = b.1 }
+
+sign_again : (s : Sign) (digits rest : List ℕ) → IsNumeral 10 digits → after_sign ((power_sign s ++ digits) ++ rest) ≡ digits ++ rest
+sign_again plus_sign digits rest numeral = refl
+sign_again minus_sign digits rest numeral = refl
+sign_again no_sign [] rest numeral = absurd (omega (arith, numeral.0))
+sign_again no_sign (d ∷ ds) rest numeral =
+    let digit : is_ascii_digit d ≡ true = (digits_pass (d ∷ ds) numeral.1).0 in
+    let none : (d == 43 || d == 45) ≡ false = grind (arith, nat_tests) in
+    rw none refl
+
+power_again : (power : Option Power) (rest : List ℕ) → IfSome power IsPower → IsOutside (get_or rest 0 0) → after_power (power_text power ++ rest) ≡ Some rest
+unfolding after_power
+power_again None rest is ends = rw ends.power refl
+power_again (Some p) rest is ends =
+    let letter : is_e p.letter ≡ true = grind (arith, nat_tests, is.0) in
+    rw letter (ap after_digits (sign_again p.sign p.digits rest is.1) ∙ digits_again p.digits rest is.1 ends.digit)
+
+an_e : (b : ℕ) → to_ascii_lowercase b ≡ 101 → (b ≡ 69) ⊎ (b ≡ 101)
+an_e b h = grind (arith, nat_tests)
+
+-- the byte behind the digits of a fraction, and behind those before a point
+power_first : (power : Option Power) (rest : List ℕ) → IfSome power IsPower → IsOutside (get_or rest 0 0)
+    → (is_ascii_digit (get_or (power_text power ++ rest) 0 0) ≡ false) × (is_point (get_or (power_text power ++ rest) 0 0) ≡ false)
+power_first None rest is ends = (ends.digit, ends.point)
+power_first (Some p) rest is ends = by_letter (an_e p.letter is.0)
+  where
+    by_letter : (p.letter ≡ 69) ⊎ (p.letter ≡ 101) → (is_ascii_digit p.letter ≡ false) × (is_point p.letter ≡ false)
+    by_letter (inl upper) = rw upper (refl, refl)
+    by_letter (inr lower) = rw lower (refl, refl)
+
+fraction_first : (fraction : Option (List ℕ)) (tail : List ℕ) → is_ascii_digit (get_or tail 0 0) ≡ false → is_ascii_digit (get_or (fraction_text fraction ++ tail) 0 0) ≡ false
+fraction_first None tail stops = stops
+fraction_first (Some digits) tail stops = refl
+
+fraction_again : (fraction : Option (List ℕ)) (tail : List ℕ) → IfSome fraction (IsNumeral 10) → is_ascii_digit (get_or tail 0 0) ≡ false → is_point (get_or tail 0 0) ≡ false
+    → after_fraction (fraction_text fraction ++ tail) ≡ Some tail
+unfolding after_fraction
+fraction_again None tail is digit point = rw point refl
+fraction_again (Some digits) tail is digit point = digits_again digits tail is digit
+
+unsigned_again : (whole : List ℕ) (fraction : Option (List ℕ)) (power : Option Power) (rest : List ℕ) → IsNumeral 10 whole → IfSome fraction (IsNumeral 10) → IfSome power IsPower → IsOutside (get_or rest 0 0)
+    → after_number (whole ++ (fraction_text fraction ++ (power_text power ++ rest))) ≡ Some rest
+unsigned_again whole fraction power rest digits places raised ends =
+    let first = power_first power rest raised ends in
+    ap (λ (o : Option (List ℕ)). option_and_then after_power (option_and_then after_fraction o))
+    (digits_again whole (fraction_text fraction ++ (power_text power ++ rest)) digits (fraction_first fraction (power_text power ++ rest) first.0))
+    ∙ ap (option_and_then after_power) (fraction_again fraction (power_text power ++ rest) places first.0 first.1)
+    ∙ power_again power rest raised ends
+
+-- a minus sign, or a digit first
+minus_again : (negative : Bool) (whole more : List ℕ) → IsNumeral 10 whole → after_minus (sign_text negative ++ (whole ++ more)) ≡ whole ++ more
+minus_again true whole more numeral = refl
+minus_again false [] more numeral = absurd (omega (arith, numeral.0))
+minus_again false (d ∷ ds) more numeral =
+    let digit : is_ascii_digit d ≡ true = (digits_pass (d ∷ ds) numeral.1).0 in
+    let none : (d == 45) ≡ false = grind (arith, nat_tests) in
+    rw none refl
+
+pub regrouped : (sign whole fraction power rest : List ℕ) → (sign ++ (whole ++ (fraction ++ power))) ++ rest ≡ sign ++ (whole ++ (fraction ++ (power ++ rest)))
+regrouped sign whole fraction power rest =
+    append_assoc sign (whole ++ (fraction ++ power)) rest
+    ∙ ap (λ (l : List ℕ). sign ++ l) (append_assoc whole (fraction ++ power) rest ∙ ap (λ (l : List ℕ). whole ++ l) (append_assoc fraction power rest))
+
+number_read : (word rest : List ℕ) → IsNumber word → number_goes_on (get_or rest 0 0) ≡ false → number_at (word ++ rest) ≡ Ok (number_token word, rest)
+unfolding number_at
+number_read word rest is ends =
+    let more : List ℕ = fraction_text is.fraction ++ (power_text is.power ++ rest) in
+    let text : word ++ rest ≡ sign_text is.negative ++ (is.whole ++ more) = ap (λ (l : List ℕ). l ++ rest) is.text ∙ regrouped (sign_text is.negative) is.whole (fraction_text is.fraction) (power_text is.power) rest in
+    let read : after_number (after_minus (word ++ rest)) ≡ Some rest =
+    ap (λ (l : List ℕ). after_number (after_minus l)) text ∙ ap after_number (minus_again is.negative is.whole more is.digits)
+    ∙ unsigned_again is.whole is.fraction is.power rest is.digits is.places is.raised (outside (get_or rest 0 0) ends) in
+    let count : length (word ++ rest) - length rest ≡ length word = simp length-append (omega arith) in
+    rw (read, ends, count, take_word word rest) refl
 
 parameter_again : (digits rest : List ℕ) → IsNumeral 10 digits → is_ascii_digit (get_or rest 0 0) ≡ false
     → parameter_at (36 ∷ (digits ++ rest)) ≡ Ok (name_token (36 ∷ digits), rest)
@@ -250,31 +337,27 @@ digit_first : (b second : ℕ) → is_ascii_digit b ≡ true → mark_of b secon
 unfolding mark_of
 digit_first b second digit = grind (arith, nat_tests)
 
-other_at_digit : (b second : ℕ) (text : List ℕ) → is_ascii_digit b ≡ true → other_at b second text ≡ signed_at text
+other_at_digit : (b second : ℕ) (text : List ℕ) → is_ascii_digit b ≡ true → other_at b second text ≡ number_at text
 other_at_digit b second text digit =
     let q : (b == 34) ≡ false = grind (arith, nat_tests) in
     let r : (b == 39) ≡ false = grind (arith, nat_tests) in
     let m : (b == 45 || is_ascii_digit b) ≡ true = grind (arith, nat_tests) in
     rw (q, r, m) refl
 
-unsigned : (b : ℕ) (bs : List ℕ) → is_ascii_digit b ≡ true → signed_at (b ∷ bs) ≡ integer_at false (b ∷ bs)
-unfolding signed_at
-unsigned b bs digit = let m : (b == 45) ≡ false = grind (arith, nat_tests) in rw m refl
+-- what begins with a minus sign or a digit is a number
+begins_number : (negative : Bool) (whole more : List ℕ) → IsNumeral 10 whole → token_at (sign_text negative ++ (whole ++ more)) ≡ number_at (sign_text negative ++ (whole ++ more))
+unfolding token_at mark_of
+begins_number true whole more numeral = refl
+begins_number false [] more numeral = absurd (omega (arith, numeral.0))
+begins_number false (d ∷ ds) more numeral =
+    let digit : is_ascii_digit d ≡ true = (digits_pass (d ∷ ds) numeral.1).0 in
+    rw (digit_first d (get_or (ds ++ more) 0 0) digit) (other_at_digit d _ _ digit)
 
-digits_again : (digits rest : List ℕ) → IsNumeral 10 digits → digits_value 10 digits < 2 ^ 64 → is_ascii_digit (get_or rest 0 0) ≡ false
-    → token_at (digits ++ rest) ≡ Ok (integer_token false (digits_value 10 digits), rest)
-unfolding token_at
-digits_again [] rest numeral small stops = absurd (omega (arith, numeral.0))
-digits_again (b ∷ bs) rest numeral small stops =
-    let digit : is_ascii_digit b ≡ true = (digits_pass (b ∷ bs) numeral.1).0 in
-    rw (digit_first b (get_or (bs ++ rest) 0 0) digit)
-    (other_at_digit b _ _ digit ∙ unsigned b (bs ++ rest) digit ∙ number_again false (b ∷ bs) rest numeral small stops)
-
-integer_again : (negative : Bool) (digits rest : List ℕ) → IsNumeral 10 digits → digits_value 10 digits < 2 ^ 64 → is_ascii_digit (get_or rest 0 0) ≡ false
-    → token_at ((sign_text negative ++ digits) ++ rest) ≡ Ok (integer_token negative (digits_value 10 digits), rest)
-unfolding token_at mark_of signed_at
-integer_again true digits rest numeral small stops = number_again true digits rest numeral small stops
-integer_again false digits rest numeral small stops = digits_again digits rest numeral small stops
+number_again : (word rest : List ℕ) → IsNumber word → number_goes_on (get_or rest 0 0) ≡ false → token_at (word ++ rest) ≡ Ok (number_token word, rest)
+number_again word rest is ends =
+    let more : List ℕ = fraction_text is.fraction ++ (power_text is.power ++ rest) in
+    let text : word ++ rest ≡ sign_text is.negative ++ (is.whole ++ more) = ap (λ (l : List ℕ). l ++ rest) is.text ∙ regrouped (sign_text is.negative) is.whole (fraction_text is.fraction) (power_text is.power) rest in
+    ap token_at text ∙ begins_number is.negative is.whole more is.digits ∙ ap number_at (sym text) ∙ number_read word rest is ends
 
 -- ---- all tokens
 
@@ -306,8 +389,7 @@ pub token_again : (t : TokenTree) (word rest : List ℕ) → Spells t word → g
 unfolding token_at mark_of
 token_again (keyword_token k) word rest spelled ends = keyword_again k word rest spelled ends
 token_again (name_token content) word rest spelled ends = name_again content word rest spelled ends
-token_again (integer_token negative magnitude) word rest (digits, whole, numeral, value, small) ends =
-    rw (whole, ← value) (integer_again negative digits rest numeral (rw (← value) at small) ends)
+token_again (number_token number) word rest (whole, is) ends = rw whole (number_again number rest is ends)
 token_again (string_token content) word rest whole ends =
     let read = unquoted_again 39 content rest ends in
     rw (whole, quoted_text 39 content rest, read) refl

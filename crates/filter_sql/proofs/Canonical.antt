@@ -1,18 +1,16 @@
 -- Printed tokens are read as themselves.
 use Rattle.std.proofs.Common.{◌≡◌, inl, inr, ℕ, zero, suc, ◌<◌, ◌==◌, ◌||◌, ◌&&◌, Bool, true, false, cond, List, [], ◌∷◌, ◌++◌, Ok, length, get_or, map, refl, sym, subst, arith, append-nil}
 use Rattle.std.specs.Char.{is_ascii_digit, is_ascii_whitespace, to_ascii_lowercase}
-use Rattle.std.specs.Fmt.{decimal}
 use Rattle.std.specs.List.{AllByRecursion, prefix_len}
 use Rattle.std.specs.Str.Parse.{IsNumeral}
 use Rattle.std.proofs.lemmas.Bool.Decides.{nat_tests}
-use Rattle.std.proofs.lemmas.Fmt.{decimal_is_IsNumeral}
 use Rattle.std.proofs.lemmas.Str.Parse.{digit_from_value}
 use Rattle.hex.specs.Hex.{IsBytes, encode_lower}
 use Rattle.hex.proofs.HexLemmas.{decode_of-encode_lower}
 use Rattle.vortex_filter.specs.declared.operator.CompareOperator.TheVariants as operators
 use Rattle.filter_sql.specs.declared.token.Keyword.{Keyword}
 use Rattle.filter_sql.specs.declared.token.Keyword.TheVariants as keywords
-use Rattle.filter_sql.specs.Tokens.{TokenTree, keyword_token, name_token, integer_token, string_token, bytes_token, operator_token, opening, closing, comma, verbatim, canonical, gap, goes_on, is_close_behind, is_joined, is_opening, is_word_byte, is_x, keyword_text, spelling, AreTokens, IsToken, Spells}
+use Rattle.filter_sql.specs.Tokens.{TokenTree, keyword_token, name_token, number_token, string_token, bytes_token, operator_token, opening, closing, comma, verbatim, canonical, gap, goes_on, is_close_behind, is_joined, is_opening, is_word_byte, is_x, keyword_text, number_goes_on, sign_text, fraction_text, power_text, spelling, AreTokens, IsToken, Spells}
 use Rattle.filter_sql.specs.Lexing.{token_at}
 use Rattle.filter_sql.specs.Texts.{trimmed}
 use Rattle.filter_sql.proofs.Again.{token_again}
@@ -48,9 +46,7 @@ keyword_spelled keywords.StartsWith = refl
 spelled : (t : TokenTree) → IsToken t → Spells t (spelling t)
 spelled (keyword_token k) is = keyword_spelled k
 spelled (name_token content) is = inr refl
-spelled (integer_token negative magnitude) small =
-    let numeral = decimal_is_IsNumeral magnitude small in
-    (decimal magnitude, refl, numeral.0, numeral.1, small)
+spelled (number_token word) is = (refl, is)
 spelled (string_token content) is = refl
 spelled (bytes_token content) all = (120, encode_lower content, refl, refl, decode_of-encode_lower content (are_bytes content all))
 spelled (operator_token operators.Eq) is = refl
@@ -89,12 +85,19 @@ dark_keyword keywords.True = record { some = omega arith; dark = refl }
 dark_keyword keywords.False = record { some = omega arith; dark = refl }
 dark_keyword keywords.StartsWith = record { some = omega arith; dark = refl }
 
+dark_behind : (digits more : List ℕ) → IsNumeral 10 digits → IsDark (digits ++ more)
+dark_behind [] more numeral = absurd (omega (arith, numeral.0))
+dark_behind (c ∷ cs) more numeral = record { some = omega arith; dark = (dark_numeral (c ∷ cs) numeral).dark }
+
+dark_signed : (negative : Bool) (digits more : List ℕ) → IsNumeral 10 digits → IsDark (sign_text negative ++ (digits ++ more))
+dark_signed true digits more numeral = record { some = omega arith; dark = refl }
+dark_signed false digits more numeral = dark_behind digits more numeral
+
 -- no token begins with white space
 dark_token : (t : TokenTree) → IsToken t → IsDark (spelling t)
 dark_token (keyword_token k) is = dark_keyword k
 dark_token (name_token content) is = record { some = omega arith; dark = refl }
-dark_token (integer_token true magnitude) small = record { some = omega arith; dark = refl }
-dark_token (integer_token false magnitude) small = dark_numeral (decimal magnitude) (decimal_is_IsNumeral magnitude small).0
+dark_token (number_token word) is = subst IsDark (sym is.text) (dark_signed is.negative is.whole (fraction_text is.fraction ++ power_text is.power) is.digits)
 dark_token (string_token content) is = record { some = omega arith; dark = refl }
 dark_token (bytes_token content) all = record { some = omega arith; dark = refl }
 dark_token (operator_token operators.Eq) is = record { some = omega arith; dark = refl }
@@ -151,6 +154,7 @@ record IsQuiet (next : ℕ) : Type 0 where
   pub double_quote : (next == 34) ≡ false
   pub equals : (next == 61) ≡ false
   pub greater : (next == 62) ≡ false
+  pub number : number_goes_on next ≡ false
 
 quiet_name : (a b c : Bool) (next : ℕ) → IsQuiet next → cond a (next == 34) (cond b (is_ascii_digit next) (is_word_byte next || (c && (next == 39)))) ≡ false
 quiet_name true b c next quiet = quiet.double_quote
@@ -161,7 +165,7 @@ quiet_name false false false next quiet = rw quiet.word refl
 quiet_ends : (t : TokenTree) (word : List ℕ) (next : ℕ) → IsQuiet next → goes_on t word next ≡ false
 quiet_ends (keyword_token k) word next quiet = quiet.word
 quiet_ends (name_token content) word next quiet = quiet_name (get_or word 0 0 == 34) (get_or word 0 0 == 36) (is_x word) next quiet
-quiet_ends (integer_token negative magnitude) word next quiet = quiet.digit
+quiet_ends (number_token number) word next quiet = quiet.number
 quiet_ends (string_token content) word next quiet = quiet.quote
 quiet_ends (bytes_token content) word next quiet = refl
 quiet_ends (operator_token operators.Eq) word next quiet = refl
@@ -176,27 +180,27 @@ quiet_ends comma word next quiet = refl
 quiet_ends (verbatim text) word next quiet = refl
 
 quiet_end : IsQuiet 0
-quiet_end = record { word = refl; digit = refl; quote = refl; double_quote = refl; equals = refl; greater = refl }
+quiet_end = record { word = refl; digit = refl; quote = refl; double_quote = refl; equals = refl; greater = refl; number = refl }
 
 quiet_space : IsQuiet 32
-quiet_space = record { word = refl; digit = refl; quote = refl; double_quote = refl; equals = refl; greater = refl }
+quiet_space = record { word = refl; digit = refl; quote = refl; double_quote = refl; equals = refl; greater = refl; number = refl }
 
 quiet_close : (u t : TokenTree) → is_close_behind u t ≡ true → IsQuiet (get_or (spelling u) 0 0)
 quiet_close (keyword_token k) t close = cc
 quiet_close (name_token content) t close = cc
-quiet_close (integer_token negative magnitude) t close = cc
+quiet_close (number_token number) t close = cc
 quiet_close (string_token content) t close = cc
 quiet_close (bytes_token content) t close = cc
 quiet_close (operator_token o) t close = cc
-quiet_close opening t close = record { word = refl; digit = refl; quote = refl; double_quote = refl; equals = refl; greater = refl }
-quiet_close closing t close = record { word = refl; digit = refl; quote = refl; double_quote = refl; equals = refl; greater = refl }
-quiet_close comma t close = record { word = refl; digit = refl; quote = refl; double_quote = refl; equals = refl; greater = refl }
+quiet_close opening t close = record { word = refl; digit = refl; quote = refl; double_quote = refl; equals = refl; greater = refl; number = refl }
+quiet_close closing t close = record { word = refl; digit = refl; quote = refl; double_quote = refl; equals = refl; greater = refl; number = refl }
+quiet_close comma t close = record { word = refl; digit = refl; quote = refl; double_quote = refl; equals = refl; greater = refl; number = refl }
 quiet_close (verbatim text) t close = cc
 
 opening_ends : (t : TokenTree) (word : List ℕ) (next : ℕ) → is_opening t ≡ true → goes_on t word next ≡ false
 opening_ends (keyword_token k) word next is = cc
 opening_ends (name_token content) word next is = cc
-opening_ends (integer_token negative magnitude) word next is = cc
+opening_ends (number_token number) word next is = cc
 opening_ends (string_token content) word next is = cc
 opening_ends (bytes_token content) word next is = cc
 opening_ends (operator_token o) word next is = cc

@@ -1,19 +1,14 @@
 -- Where texts are cut, and how long runs of digits and of a word's bytes are.
 use Rattle.std.proofs.Common.{◌≡◌, ◌≢◌, ℕ, ◌+◌, ◌-◌, ◌<◌, ◌≤◌, ◌^◌, List, [], ◌∷◌, ◌++◌, Option, Some, None, Bool, true, false, Result, Err, append_assoc, length-append, suc, add-one, nat_lt, length-drop, le-ltb, length, get_or, take, drop, IsUtf8, refl, sym, ap, ◌∙◌, subst, arith, ◌==◌}
 use Rattle.std.specs.Char.{is_ascii_digit}
-use Rattle.std.specs.Int.{IsInRange}
 use Rattle.std.specs.List.{prefix_len}
-use Rattle.std.specs.Result.{OkIff}
 use Rattle.std.specs.Str.{IsCharBoundary}
-use Rattle.std.specs.Str.Parse.{ParsesUnsigned, digits_value}
 use Rattle.std.proofs.lemmas.Bool.Decides.{nat_tests}
 use Rattle.std.proofs.lemmas.List.{get_or-take, get_or-drop, length-take-le}
 use Rattle.std.proofs.lemmas.List.Sums.{prefix_len-le-length, prefix_len_passes}
 use Rattle.std.proofs.lemmas.Str.{IsCharBoundary-after_ascii, IsUtf8-drop}
-use Rattle.std.proofs.lemmas.Str.Parse.{IsNumeralModel, numerals_by_value, tells_by_index, parse_digits}
 use Rattle.filter_sql.specs.Tokens.{is_word_byte, is_word_start}
-use Rattle.filter_sql.specs.Lexing.{integer_at, signed_at, unquoted_at, with_byte}
-use Rattle.filter_sql.specs.declared.lex.LexError.TheVariants.{NumberTooLong}
+use Rattle.filter_sql.specs.Lexing.{unquoted_at, with_byte}
 
 -- a text may be cut behind an ASCII byte
 pub cut_behind : (text : List ℕ) (count : ℕ) → IsUtf8 text → 0 < count → count ≤ length text → get_or text (count - 1) 0 < 128 → IsCharBoundary text count
@@ -27,9 +22,6 @@ pub ruleset cuts = (cut_behind)
 
 digit_is_ascii : (b : ℕ) → is_ascii_digit b ≡ true → b < 128
 digit_is_ascii b h = grind (arith, nat_tests)
-
-digit_is_in_range : (b : ℕ) → is_ascii_digit b ≡ true → IsInRange 48 57 b
-digit_is_in_range b h = grind (arith, nat_tests)
 
 word_byte_is_ascii : (b : ℕ) → is_word_byte b ≡ true → b < 128
 word_byte_is_ascii b h = grind (arith, nat_tests)
@@ -49,21 +41,6 @@ word_within text count is = omega (arith, prefix_len-le-length is_word_byte text
 
 pub word_end : (text : List ℕ) (count : ℕ) → count ≡ prefix_len is_word_byte text → count ≢ 0 → get_or text (count - 1) 0 < 128
 word_end text count is some = word_byte_is_ascii _ (last_passes is_word_byte text count is some)
-
--- ---- numbers
-
-own : IsNumeralModel (λ ds. (i : ℕ) → i < length ds → IsInRange 48 57 (get_or ds i 0)) (digits_value 10)
-own = numerals_by_value _ tells_by_index
-
--- a run of digits is a number, unless its value is too great
-pub run_parses : {E : Type 0} (text : List ℕ) (count : ℕ) (r : Result ℕ E) → count ≡ prefix_len is_ascii_digit text → count ≢ 0 → ParsesUnsigned 64 10 (take count text) r
-    → OkIff r ((0 < length (take count text)) × (digits_value 10 (take count text) < 2 ^ 64)) (digits_value 10 (take count text))
-run_parses text count r is some parsed =
-    let size : length (take count text) ≡ count = length-take-le count text (digits_within text count is) in
-    parse_digits own 64 (take count text) r parsed (λ i below.
-    let inside : i < count = omega (arith, size) in
-    rw (get_or-take count text i 0 inside)
-    (digit_is_in_range _ (prefix_len_passes is_ascii_digit text i 0 (omega arith))))
 
 -- ---- quotes
 
@@ -170,27 +147,6 @@ word_some (b ∷ bs) count is start = λ none.
     let passes : is_word_byte b ≡ true = rw start refl in
     let one : count ≡ 1 + prefix_len is_word_byte bs = is ∙ rw passes refl in
     omega arith
-
--- a run of digits whose value is too great
-pub too_long : {E : Type 0} (negative : Bool) (text : List ℕ) (count : ℕ) (e : E) → count ≡ prefix_len is_ascii_digit text → count ≢ 0 → ParsesUnsigned 64 10 (take count text) (Err e)
-    → integer_at negative text ≡ Err NumberTooLong
-unfolding integer_at
-too_long negative text count e is some parsed =
-    let refused = run_parses text count (Err e) is some parsed in
-    let size : length (take count text) ≡ count = length-take-le count text (digits_within text count is) in
-    let big : digits_value 10 (take count text) < 2 ^ 64 → ⊥ = λ small. refused (omega arith, small) in
-    let great : nat_lt (digits_value 10 (take count text)) (2 ^ 64) ≡ false = le-ltb _ _ (omega (arith, big)) in
-    let other : (count == 0) ≡ false = grind (arith, nat_tests) in
-    rw (← is, other, great) refl
-
--- where no minus sign stands first
-pub not_minus : (text : List ℕ) → ((rest : List ℕ) → text ≢ 45 ∷ rest) → signed_at text ≡ integer_at false text
-unfolding signed_at
-not_minus [] none = refl
-not_minus (b ∷ bs) none =
-    let other : b ≢ 45 = λ same. none bs (ap (λ x. x ∷ bs) same) in
-    let differs : (b == 45) ≡ false = grind (arith, nat_tests) in
-    rw differs refl
 
 -- the last digit behind a dollar sign
 pub parameter_end : (text : List ℕ) (count : ℕ) → count ≡ prefix_len is_ascii_digit (drop 1 text) → count ≢ 0 → get_or text (length text - length (drop count (drop 1 text)) - 1) 0 < 128

@@ -1,5 +1,5 @@
 -- A filter that is read fits the types of the columns.
-use Rattle.std.proofs.Common.{◌≡◌, ℕ, ℤ, pos, Bool, true, false, cond, List, [], ◌∷◌, ◌++◌, Option, Some, None, refl, ap, subst, ◌∙◌}
+use Rattle.std.proofs.Common.{◌≡◌, ◌&&◌, ◌+ℤ◌, ℕ, ℤ, pos, Bool, true, false, cond, List, [], ◌∷◌, ◌++◌, Option, Some, None, refl, ap, subst, ◌∙◌}
 use Rattle.std.specs.Prelude.{option_and_then, option_map, slice_get}
 use Rattle.std.specs.Ordering.{int_cmp}
 use Rattle.std.proofs.lemmas.Option.{slice_get-map}
@@ -9,13 +9,17 @@ use Rattle.vortex_dtype.specs.declared.ptype.PType.{PType}
 use Rattle.vortex_pvalue.specs.Numbers.{in_range}
 use Rattle.vortex_value.specs.TypesWithin.{HasNoVariant}
 use Rattle.vortex_cells.specs.Cells.{Cell}
+use Rattle.logical_scalars.specs.TypeShapes.{shape_in}
+use Rattle.logical_types.specs.Shapes.{Shape, float64, float32, decimals, days, times, timestamps, place_in, storage_in}
+use Rattle.logical_types.specs.declared.decimals.places.DecimalPlace.{DecimalPlace}
+use Rattle.logical_types.specs.declared.decimals.places.DecimalPlace.TheVariants.{At, Behind, BelowAll, AboveAll}
 use Rattle.filter_sql.specs.declared.print.Level.{Level}
 use Rattle.vortex_filter.specs.Checking.{Test, tests, HoldsStrings, IsOfType, AllFit, FitsColumns}
 use Rattle.vortex_filter.specs.CheckSteps.{holds_strings}
 use Rattle.filter_sql.specs.ColumnNames.{ColumnTree, column_named, column_there, typed_place, or_numbered, named_place}
 use Rattle.vortex_filter.specs.Formula.{Formula, negation, null_test, prefix_test}
 use Rattle.filter_sql.specs.Grammar.{IsPredicate, says_true, says_false, says_null, on_column, prefix_call, IsFilter, predicate, group, not_filter, one_operand, and_filter, one_conjunction, or_filter}
-use Rattle.vortex_filter.specs.Literals.{LiteralTree, null_literal, truth_literal, number_literal, text_literal, bytes_literal, bytes_cell, bytes_in, null_cell, number_cell, number_in, number_position, position_of, text_cell, text_in, truth_cell, truth_in}
+use Rattle.vortex_filter.specs.Literals.{LiteralTree, null_literal, truth_literal, number_literal, text_literal, bytes_literal, bytes_cell, bytes_in, decimal_at, integer_at, integer_in, logical_cell, null_cell, number_cell, number_in, number_of_shape, position_of, text_cell, text_in, text_of_shape, truth_cell, truth_in, written_value}
 use Rattle.vortex_filter.specs.Positions.{PositionTree, exactly, just_above, lacking, comparison_of, member_among, prefix_of, range_of}
 use Rattle.filter_sql.specs.Literals.{Condition, compared, missing, listed, between, begun, denied, formula_in, positions_of}
 use Rattle.filter_sql.specs.Parsing.{types_of, AllOrdered}
@@ -40,12 +44,61 @@ number_by : (k : PType) (n : Nullability) (z : ℤ) (inside : Bool) → CellFits
 number_by k n z true = refl
 number_by k n z false = tt
 
-number_fits : (t : TypeTree) (z : ℤ) (p : PositionTree) → number_in t z ≡ Some p → CellFits t p
-number_fits (integer_type k n) z p e = fits_as (integer_type k n) (number_position k z) p e (number_by k n z (in_range k z))
-number_fits _ z p e = absurd cc
+gap_by : (k : PType) (n : Nullability) (z : ℤ) (inside : Bool) → CellFits (integer_type k n) (cond inside (just_above (number_cell k z)) (lacking (int_cmp (pos 0) z)))
+gap_by k n z true = refl
+gap_by k n z false = tt
+
+integer_fits : (k : PType) (n : Nullability) (d : DecimalPlace) → CellFits (integer_type k n) (integer_at k d)
+integer_fits k n (At z) = number_by k n z (in_range k z)
+integer_fits k n (Behind z) = gap_by k n z (in_range k z && in_range k (z +ℤ pos 1))
+integer_fits k n BelowAll = tt
+integer_fits k n AboveAll = tt
+
+mapped_fits : {X : Type 0} (t : TypeTree) (f : X → PositionTree) (o : Option X) (p : PositionTree) → ((x : X) → CellFits t (f x)) → option_map f o ≡ Some p → CellFits t p
+mapped_fits t f None p h e = absurd cc
+mapped_fits t f (Some x) p h e = fits_as t (f x) p e (h x)
+
+integers_fit : (k : PType) (n : Nullability) (word : List ℕ) (p : PositionTree) → integer_in k word ≡ Some p → CellFits (integer_type k n) p
+integers_fit k n word p e = mapped_fits (integer_type k n) (integer_at k) (place_in 38 0 word) p (integer_fits k n) e
+
+written_fits : (t : TypeTree) (s : Shape) (word : List ℕ) (p : PositionTree) → written_value t s word ≡ Some p → CellFits t p
+written_fits t s word p e = mapped_fits t (λ (z : ℤ). exactly (logical_cell t s z)) (storage_in s word) p (λ z. refl) e
+
+decimal_fits : (t : TypeTree) (s : Shape) (d : DecimalPlace) → CellFits t (decimal_at t s d)
+decimal_fits t s (At z) = refl
+decimal_fits t s (Behind z) = refl
+decimal_fits t s BelowAll = tt
+decimal_fits t s AboveAll = tt
+
+number_shaped : (t : TypeTree) (s : Shape) (word : List ℕ) (p : PositionTree) → number_of_shape t s word ≡ Some p → CellFits t p
+number_shaped t float64 word p e = written_fits t float64 word p e
+number_shaped t float32 word p e = written_fits t float32 word p e
+number_shaped t (decimals precision scale) word p e = mapped_fits t (decimal_at t (decimals precision scale)) (place_in precision scale word) p (decimal_fits t (decimals precision scale)) e
+number_shaped t days word p e = absurd cc
+number_shaped t (times unit) word p e = absurd cc
+number_shaped t (timestamps unit zoned) word p e = absurd cc
+
+text_shaped : (t : TypeTree) (s : Shape) (word : List ℕ) (p : PositionTree) → text_of_shape t s word ≡ Some p → CellFits t p
+text_shaped t float64 word p e = number_shaped t float64 word p e
+text_shaped t float32 word p e = number_shaped t float32 word p e
+text_shaped t (decimals precision scale) word p e = number_shaped t (decimals precision scale) word p e
+text_shaped t days word p e = written_fits t days word p e
+text_shaped t (times unit) word p e = written_fits t (times unit) word p e
+text_shaped t (timestamps unit zoned) word p e = written_fits t (timestamps unit zoned) word p e
+
+number_fits : (t : TypeTree) (word : List ℕ) (p : PositionTree) → number_in t word ≡ Some p → CellFits t p
+number_fits (integer_type k n) word p e = integers_fit k n word p e
+number_fits (extension_type id m u) word p e =
+    let a = bind_some (shape_in (extension_type id m u)) (λ (s : Shape). number_of_shape (extension_type id m u) s word) p e in
+    number_shaped (extension_type id m u) a.0 word p a.2
+number_fits _ word p e = absurd cc
 
 text_fits : (t : TypeTree) (bs : List ℕ) (p : PositionTree) → text_in t bs ≡ Some p → CellFits t p
 text_fits (utf8_type n) bs p e = fits_as (utf8_type n) (exactly (text_cell bs)) p e refl
+text_fits (integer_type k n) bs p e = integers_fit k n bs p e
+text_fits (extension_type id m u) bs p e =
+    let a = bind_some (shape_in (extension_type id m u)) (λ (s : Shape). text_of_shape (extension_type id m u) s bs) p e in
+    text_shaped (extension_type id m u) a.0 bs p a.2
 text_fits _ bs p e = absurd cc
 
 bytes_fit : (t : TypeTree) (bs : List ℕ) (p : PositionTree) → bytes_in t bs ≡ Some p → CellFits t p
@@ -55,7 +108,7 @@ bytes_fit _ bs p e = absurd cc
 pub literal_fits : (t : TypeTree) (l : LiteralTree) (p : PositionTree) → position_of t l ≡ Some p → CellFits t p
 literal_fits t null_literal p e = fits_as t (exactly (null_cell t)) p e (as_nullable_fits t)
 literal_fits t (truth_literal b) p e = truth_fits t b p e
-literal_fits t (number_literal z) p e = number_fits t z p e
+literal_fits t (number_literal word) p e = number_fits t word p e
 literal_fits t (text_literal bs) p e = text_fits t bs p e
 literal_fits t (bytes_literal bs) p e = bytes_fit t bs p e
 

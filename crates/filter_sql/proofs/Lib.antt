@@ -16,6 +16,7 @@ pub mod ReadLaws
 pub mod ReadSteps
 pub mod Runs
 pub mod Taken
+pub mod StringSteps
 pub mod TestSteps
 pub mod TextProofs
 pub mod Words

@@ -11,7 +11,7 @@ use Rattle.filter_sql.specs.declared.token.Keyword.TheVariants as keywords
 use Rattle.vortex_filter.specs.declared.truth.Truth.TheVariants as truths
 use Rattle.vortex_filter.specs.Formula.{Formula, constant, comparison, null_test, membership, range, prefix_test, both, either, negation}
 use Rattle.filter_sql.specs.Tokens.{TokenTree, keyword_token, string_token, operator_token, opening, closing, comma, canonical, gap, is_close_behind, is_opening, is_starts_with, keyword_text, quoted, spelling}
-use Rattle.filter_sql.specs.Printing.{column_token, comparison_tokens, content_token, escape_tokens, grouped, groups_and, groups_or, is_special, like_tokens, literal_token, literal_tokens, membership_tokens, null_test_tokens, prefix_pattern, prefix_tokens, range_tokens, starts_with_tokens, tokens_at}
+use Rattle.filter_sql.specs.Printing.{column_token, comparison_tokens, content_token, escape_tokens, grouped, groups_and, groups_or, is_special, like_tokens, printed_content, literal_token, literal_tokens, membership_tokens, null_test_tokens, prefix_pattern, prefix_tokens, range_tokens, starts_with_tokens, tokens_at}
 use Rattle.filter_sql.specs.Pieces.{comparison_text, group_text, like_text, literal_text, literals_text, membership_text, null_test_text, prefix_text, range_text, starts_with_text, text_at}
 
 -- ---- two lists, one behind the other
@@ -123,8 +123,7 @@ content_apart (typed t' c) t = refl
 content_closed : (c : Content) → is_opening (content_token c) ≡ false
 content_closed null = refl
 content_closed (truth b) = refl
-content_closed (whole (pos n)) = refl
-content_closed (whole (negsuc n)) = refl
+content_closed (whole z) = refl
 content_closed (text bs) = refl
 content_closed (string bs) = refl
 content_closed (sequence cs) = refl
@@ -132,17 +131,17 @@ content_closed (tagged n c) = refl
 content_closed (typed t c) = refl
 
 comma_text : (y : Cell) (ys : List Cell) → canonical (comma ∷ (literal_tokens (y ∷ ys) ++ closing ∷ [])) ≡ codes ", " ++ canonical (literal_tokens (y ∷ ys) ++ closing ∷ [])
-comma_text y [] = rw (content_apart y.content comma) refl
-comma_text y (z ∷ zs) = rw (content_apart y.content comma) refl
+comma_text y [] = rw (content_apart (printed_content y) comma) refl
+comma_text y (z ∷ zs) = rw (content_apart (printed_content y) comma) refl
 
 opening_text : (x : Cell) (xs : List Cell) → canonical (opening ∷ (literal_tokens (x ∷ xs) ++ closing ∷ [])) ≡ codes "(" ++ canonical (literal_tokens (x ∷ xs) ++ closing ∷ [])
 opening_text x [] = refl
 opening_text x (y ∷ ys) = refl
 
 closed_text : (x : Cell) (xs : List Cell) → canonical (literal_tokens (x ∷ xs) ++ closing ∷ []) ≡ literals_text (x ∷ xs) ++ codes ")"
-closed_text x [] = rw (content_closed x.content) (ap (λ (l : List ℕ). l ++ codes ")") (sym (append-nil (literal_text x))))
+closed_text x [] = rw (content_closed (printed_content x)) (ap (λ (l : List ℕ). l ++ codes ")") (sym (append-nil (literal_text x))))
 closed_text x (y ∷ ys) =
-    let first : canonical (literal_tokens (x ∷ y ∷ ys) ++ closing ∷ []) ≡ literal_text x ++ canonical (comma ∷ (literal_tokens (y ∷ ys) ++ closing ∷ [])) = rw (content_closed x.content) refl in
+    let first : canonical (literal_tokens (x ∷ y ∷ ys) ++ closing ∷ []) ≡ literal_text x ++ canonical (comma ∷ (literal_tokens (y ∷ ys) ++ closing ∷ [])) = rw (content_closed (printed_content x)) refl in
     let rest : canonical (comma ∷ (literal_tokens (y ∷ ys) ++ closing ∷ [])) ≡ codes ", " ++ (literals_text (y ∷ ys) ++ codes ")") = comma_text y ys ∙ ap (λ (l : List ℕ). codes ", " ++ l) (closed_text y ys) in
     first ∙ ap (λ (l : List ℕ). literal_text x ++ l) rest ∙ sym (append_assoc (literal_text x) (codes ", " ++ literals_text (y ∷ ys)) (codes ")"))
 
@@ -158,8 +157,8 @@ module _ (names : List (List ℕ)) (k : ℕ) where
 
   comparison_printed : (op : CompareOperator) (x : Cell) → IsPrinted (comparison_tokens names k op x) (comparison_text names k op x)
   comparison_printed op x = record {
-    text = rw (content_apart x.content (operator_token op)) refl;
-    phrase = column_phrase (operator_token op ∷ literal_token x ∷ []) (content_closed x.content);
+    text = rw (content_apart (printed_content x) (operator_token op)) refl;
+    phrase = column_phrase (operator_token op ∷ literal_token x ∷ []) (content_closed (printed_content x));
   }
 
   null_test_printed : (negated : Bool) → IsPrinted (column_token names k ∷ null_test_tokens negated) (null_test_text names k negated)
@@ -178,12 +177,12 @@ module _ (names : List (List ℕ)) (k : ℕ) where
 
   range_printed : (negated : Bool) (x y : Cell) → IsPrinted (column_token names k ∷ range_tokens negated x y) (range_text names k negated x y)
   range_printed true x y = record {
-    text = rw (content_apart x.content (keyword_token keywords.Between), content_closed x.content, content_apart y.content (keyword_token keywords.And)) refl;
-    phrase = column_phrase (range_tokens true x y) (content_closed y.content);
+    text = rw (content_apart (printed_content x) (keyword_token keywords.Between), content_closed (printed_content x), content_apart (printed_content y) (keyword_token keywords.And)) refl;
+    phrase = column_phrase (range_tokens true x y) (content_closed (printed_content y));
   }
   range_printed false x y = record {
-    text = rw (content_apart x.content (keyword_token keywords.Between), content_closed x.content, content_apart y.content (keyword_token keywords.And)) refl;
-    phrase = column_phrase (range_tokens false x y) (content_closed y.content);
+    text = rw (content_apart (printed_content x) (keyword_token keywords.Between), content_closed (printed_content x), content_apart (printed_content y) (keyword_token keywords.And)) refl;
+    phrase = column_phrase (range_tokens false x y) (content_closed (printed_content y));
   }
 
   like_printed : (prefix : List ℕ) → IsPrinted (like_tokens (column_token names k) prefix) (like_text names k prefix)

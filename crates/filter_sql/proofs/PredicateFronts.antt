@@ -12,13 +12,13 @@ use Rattle.vortex_filter.specs.declared.truth.Truth.TheVariants as truths
 use Rattle.filter_sql.specs.ColumnNames.{ColumnTree, column_named}
 use Rattle.vortex_filter.specs.Formula.{Formula, constant, null_test, membership, negation}
 use Rattle.vortex_filter.specs.CheckSteps.{holds_strings}
-use Rattle.vortex_filter.specs.Literals.{LiteralTree, text_in, text_literal}
+use Rattle.vortex_filter.specs.Literals.{LiteralTree, text_literal}
 use Rattle.vortex_filter.specs.Positions.{PositionTree, cells_of, comparison_of, member_among, member_of, prefix_of, range_of}
 use Rattle.filter_sql.specs.Literals.{Condition, compared, missing, listed, between, begun, denied, formula_in, pattern_prefix, positions_of}
 use Rattle.filter_sql.specs.Grammar.{AreLiterals, one_literal, more_literals, IsTest, in_nothing, in_literals, between_literals, like_pattern, like_escaped, IsCondition, compares, is_null, is_not_null, bare_test, not_test, IsPredicate, says_true, says_false, says_null, on_column, prefix_call}
 use Rattle.filter_sql.specs.Tokens.{TokenTree, keyword_token, name_token, string_token, operator_token, opening, closing, comma}
-use Rattle.filter_sql.specs.Reading.{◌>>=◌, chosen, Read, after_keyword, after_opening, after_closing, after_comma, operator_at, name_at, string_at, position_at, token_position, preceded, more_cells, cells_at, members_from, members_at, range_at, backslash, escape_at, text_prefix, like_at, test_at, comparison_at, null_test_at, negated, condition_at, condition_of, prefix_in, prefix_call_at, constant_at, predicate_at}
-use Rattle.filter_sql.proofs.ConditionSteps.{begun_says, between_says, bind_some, guard_some, some_members, stand_more, text_strings, token_stands}
+use Rattle.filter_sql.specs.Reading.{◌>>=◌, chosen, Read, after_keyword, after_opening, after_closing, after_comma, operator_at, name_at, string_at, string_in, position_at, token_position, preceded, more_cells, cells_at, members_from, members_at, range_at, backslash, escape_at, text_prefix, like_at, test_at, comparison_at, null_test_at, negated, condition_at, condition_of, prefix_in, prefix_call_at, constant_at, predicate_at}
+use Rattle.filter_sql.proofs.ConditionSteps.{begun_says, between_says, bind_some, guard_some, some_members, stand_more, string_said, token_stands}
 use Rattle.filter_sql.proofs.TestSteps.{literal_came}
 use Rattle.filter_sql.proofs.PredicateLaws.{cells_front}
 use Rattle.filter_sql.proofs.Words.{keyword_came, opening_came, closing_came, comma_came, some_is}
@@ -202,9 +202,10 @@ record TextPrefix (k : ℕ) (t : TypeTree) (bs : List ℕ) (f : Formula) : Type 
 text_came : (k : ℕ) (t : TypeTree) (bs : List ℕ) (f : Formula) → text_prefix k t bs ≡ Some f → TextPrefix k t bs f
 unfolding text_prefix
 text_came k t bs f e =
-    let g = guard_some (is_utf8 bs) (text_in t bs >>= prefix_of k) f e in
-    let a = bind_some (text_in t bs) (prefix_of k) f g.1 in
-    record { utf8 = g.0; says = begun_says k t (text_literal bs) a.0 f (text_strings t bs a.0 a.1) a.1 a.2 }
+    let g = guard_some (is_utf8 bs) (string_in t bs >>= prefix_of k) f e in
+    let a = bind_some (string_in t bs) (prefix_of k) f g.1 in
+    let s = string_said t bs a.0 a.1 in
+    record { utf8 = g.0; says = begun_says k t (text_literal bs) a.0 f s.0 s.1 a.2 }
 
 module _ (k : ℕ) (t : TypeTree) (f : Formula) (rest : List TokenTree) where
   like_by : (ts : List TokenTree) (pattern bs : List ℕ) (vs : List TokenTree) (escapes : Bool) (us : List TokenTree) (g : Formula) → ts ≡ keyword_token Like ∷ string_token pattern ∷ vs → Escapes vs escapes us → pattern_prefix escapes pattern ≡ Some bs → TextPrefix k t bs g → (g ≡ f) × (us ≡ rest) → TestFront k t ts f rest

@@ -15,9 +15,9 @@ use Rattle.vortex_filter.specs.Literals.{LiteralTree, position_of, text_in, text
 use Rattle.vortex_filter.specs.Positions.{PositionTree, exactly, just_above, lacking, cells_of, comparison_of, member_among, member_of, prefix_of, range_of}
 use Rattle.filter_sql.specs.Literals.{Condition, begun, formula_in, literal_of, pattern_prefix, positions_of}
 use Rattle.filter_sql.specs.Grammar.{AreLiterals, one_literal, more_literals, IsTest, in_nothing, in_literals, between_literals, like_pattern, like_escaped, IsCondition, compares, is_null, is_not_null, bare_test, not_test, IsPredicate, says_true, says_false, says_null, on_column, prefix_call}
-use Rattle.filter_sql.specs.Tokens.{TokenTree, keyword_token, name_token, integer_token, string_token, bytes_token, operator_token, opening, closing, comma, verbatim}
-use Rattle.filter_sql.specs.Reading.{Read, after_keyword, after_opening, after_closing, after_comma, operator_at, name_at, string_at, position_at, token_position, more_cells, cells_at, members_at, range_at, escape_at, text_prefix, like_at, test_at, comparison_at, null_test_at, negated, condition_at, prefix_in, prefix_call_at, constant_at, predicate_at}
-use Rattle.filter_sql.proofs.ConditionSteps.{bind_some, guard_some, map_some, position_said, some_members, stand_parts}
+use Rattle.filter_sql.specs.Tokens.{TokenTree, keyword_token, name_token, number_token, string_token, bytes_token, operator_token, opening, closing, comma, verbatim}
+use Rattle.filter_sql.specs.Reading.{Read, after_keyword, after_opening, after_closing, after_comma, operator_at, name_at, string_at, string_in, position_at, token_position, more_cells, cells_at, members_at, range_at, escape_at, text_prefix, like_at, test_at, comparison_at, null_test_at, negated, condition_at, prefix_in, prefix_call_at, constant_at, predicate_at}
+use Rattle.filter_sql.proofs.ConditionSteps.{bind_some, guard_some, map_some, position_said, some_members, stand_parts, string_same}
 use Rattle.filter_sql.proofs.TestSteps.{comma_more}
 use Rattle.filter_sql.proofs.Words.{MayFollow, no_escape, some_is}
 
@@ -28,7 +28,7 @@ not_closing : (x : TokenTree) (l : LiteralTree) (ts : List TokenTree) → litera
 unfolding after_closing literal_of
 not_closing (keyword_token k) l ts e = refl
 not_closing (name_token bs) l ts e = refl
-not_closing (integer_token b n) l ts e = refl
+not_closing (number_token word) l ts e = refl
 not_closing (string_token bs) l ts e = refl
 not_closing (bytes_token bs) l ts e = refl
 not_closing (operator_token op) l ts e = refl
@@ -81,7 +81,7 @@ escaped_read : (rest : List TokenTree) → escape_at (keyword_token Escape ∷ s
 unfolding escape_at after_keyword string_at
 escaped_read rest = refl
 
-prefix_read : (k : ℕ) (t : TypeTree) (bs : List ℕ) (f : Formula) → is_utf8 bs ≡ true → option_and_then (prefix_of k) (text_in t bs) ≡ Some f → text_prefix k t bs ≡ Some f
+prefix_read : (k : ℕ) (t : TypeTree) (bs : List ℕ) (f : Formula) → is_utf8 bs ≡ true → option_and_then (prefix_of k) (string_in t bs) ≡ Some f → text_prefix k t bs ≡ Some f
 unfolding text_prefix
 prefix_read k t bs f utf8 says = rw utf8 says
 
@@ -130,7 +130,9 @@ read_as r g f rest read same = read ∙ ap (λ (h : Formula). Some (h, rest)) sa
 module _ (k : ℕ) (t : TypeTree) where
   -- a string that a column begins with
   text_reads : (bs : List ℕ) (f : Formula) → is_utf8 bs ≡ true → formula_in k t (begun (text_literal bs)) ≡ Some f → text_prefix k t bs ≡ Some f
-  text_reads bs f utf8 e = prefix_read k t bs f utf8 (guard_some (holds_strings t) (option_and_then (prefix_of k) (text_in t bs)) f e).1
+  text_reads bs f utf8 e =
+      let g = guard_some (holds_strings t) (option_and_then (prefix_of k) (text_in t bs)) f e in
+      prefix_read k t bs f utf8 (sym (ap (option_and_then (prefix_of k)) (string_same t bs g.0)) ∙ g.1)
 
   test_reads : {ts : List TokenTree} {c : Condition} → IsTest ts c → (f : Formula) → formula_in k t c ≡ Some f → (rest : List TokenTree) → MayFollow levels.Not rest → test_at k t (ts ++ rest) ≡ Some (f, rest)
   test_reads in_nothing f e rest follows = read_as _ (membership k []) f rest (in_test k t (opening ∷ closing ∷ rest) ∙ nothing_read k t rest) (some_is (membership k []) f e)

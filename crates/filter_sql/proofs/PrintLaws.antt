@@ -1,10 +1,14 @@
 -- A printed filter is in the grammar.
-use Rattle.std.proofs.Common.{◌≡◌, ◌⊎◌, inl, inr, ◌≤◌, ◌<◌, ◌-◌, ◌^◌, ◌==◌, ◌||◌, ◌&&◌, ℕ, suc, max, ℤ, pos, negsuc, Bool, true, false, cond, List, [], ◌∷◌, ◌++◌, Some, refl, sym, ap, subst, ◌∙◌, arith}
+use Rattle.std.proofs.Common.{◌≡◌, ◌⊎◌, inl, inr, ◌≤◌, ◌<◌, ◌-◌, ◌^◌, ◌==◌, ◌||◌, ◌&&◌, ℕ, suc, max, ℤ, pos, negsuc, Bool, true, false, cond, List, [], ◌∷◌, ◌++◌, Some, None, unsigned_abs, append-nil, refl, sym, ap, subst, ◌∙◌, arith}
 use Rattle.std.specs.Prelude.{option_map}
 use Rattle.std.specs.List.{AllByRecursion, flat_map, list_any}
+use Rattle.std.specs.Fmt.{decimal}
+use Rattle.std.specs.Ordering.{int_cmp}
 use Rattle.std.specs.Str.{IsUtf8}
+use Rattle.std.specs.Str.Parse.{IsNumeral}
 use Rattle.std.proofs.Math.Nat.{le-max_left, le-max_right}
 use Rattle.std.proofs.lemmas.Bool.{ltb-true}
+use Rattle.std.proofs.lemmas.Fmt.{decimal_is_IsNumeral}
 use Rattle.std.proofs.lemmas.List.Concat.{flat_map-cons}
 use Rattle.std.proofs.lemmas.Str.{is_utf8-from_IsUtf8}
 use Rattle.vortex_dtype.specs.TypeTree.{TypeTree, bool_type, integer_type, utf8_type, binary_type}
@@ -13,6 +17,9 @@ use Rattle.vortex_dtype.specs.declared.ptype.PType.TheVariants.{U8, U16, U32, U6
 use Rattle.vortex_pvalue.specs.Numbers.{InRange, in_range}
 use Rattle.vortex_pvalue.specs.RangeLaws.{in_range_true}
 use Rattle.vortex_cells.specs.Cells.{Cell}
+use Rattle.logical_types.specs.Decimals.{decimal_text}
+use Rattle.logical_types.specs.Shapes.{place_in}
+use Rattle.logical_types.specs.declared.decimals.places.DecimalPlace.TheVariants.{At}
 use Rattle.filter_sql.specs.declared.print.Level.{Level}
 use Rattle.filter_sql.specs.declared.print.Level.TheVariants as levels
 use Rattle.filter_sql.specs.declared.token.Keyword.TheVariants as keywords
@@ -21,12 +28,12 @@ use Rattle.filter_sql.specs.ColumnNames.{ColumnTree}
 use Rattle.vortex_filter.specs.Formula.{Formula, constant, comparison, null_test, membership, range, prefix_test, both, either, negation}
 use Rattle.filter_sql.specs.Grammar.{AreLiterals, one_literal, more_literals, IsTest, in_nothing, in_literals, between_literals, like_pattern, like_escaped, IsCondition, compares, is_null, is_not_null, bare_test, not_test, IsPredicate, says_true, says_false, says_null, on_column, prefix_call, IsFilter, predicate, group, not_filter, one_operand, and_filter, one_conjunction, or_filter}
 use Rattle.vortex_filter.specs.CheckSteps.{holds_strings}
-use Rattle.vortex_filter.specs.Literals.{LiteralTree, null_literal, truth_literal, number_literal, text_literal, bytes_literal, null_cell, truth_cell, number_cell, text_cell, bytes_cell, position_of}
-use Rattle.vortex_filter.specs.Positions.{PositionTree, exactly, cells_of, comparison_of, member_among, member_of}
+use Rattle.vortex_filter.specs.Literals.{LiteralTree, integer_at, integer_in, null_literal, truth_literal, number_literal, text_literal, bytes_literal, null_cell, truth_cell, number_cell, text_cell, bytes_cell, position_of}
+use Rattle.vortex_filter.specs.Positions.{PositionTree, exactly, lacking, cells_of, comparison_of, member_among, member_of}
 use Rattle.filter_sql.specs.Literals.{Condition, compared, missing, listed, between, begun, denied, formula_in, literal_of, pattern_prefix, positions_of, with_byte, is_wildcard}
 use Rattle.filter_sql.specs.Parsing.{IsValueLiteral, IsLiteral, IsFound, IsReadable, depth, depth_at}
-use Rattle.filter_sql.specs.Printing.{column_token, literal_token, literal_tokens, is_special, escaped_byte, prefix_pattern, prefix_tokens, tokens_at, tokens_of}
-use Rattle.filter_sql.specs.Tokens.{TokenTree, IsToken, AreTokens, keyword_token, string_token, opening, closing, comma}
+use Rattle.filter_sql.specs.Printing.{column_token, integer_text, literal_token, literal_tokens, is_special, escaped_byte, prefix_pattern, prefix_tokens, tokens_at, tokens_of}
+use Rattle.filter_sql.specs.Tokens.{TokenTree, IsNumber, IsToken, AreTokens, keyword_token, string_token, opening, closing, comma}
 use Rattle.filter_sql.proofs.ConditionSteps.{begun_says, between_says, stand_more}
 use Rattle.filter_sql.proofs.TestSteps.{step_escape, step_plain}
 
@@ -63,319 +70,347 @@ passed_negative I16 n h = let small : n < 2 ^ 15 = ltb-true n (2 ^ 15) h in omeg
 passed_negative I32 n h = let small : n < 2 ^ 31 = ltb-true n (2 ^ 31) h in omega arith
 passed_negative I64 n h = let small : n < 2 ^ 63 = ltb-true n (2 ^ 63) h in omega arith
 
-number_printed : (k : PType) (z : ℤ) (n : _) → InRange k z → Said (integer_type k n) (number_cell k z)
+-- what is printed of an integer lies at it
+abbrev pub IntegersThere : Type 0
+IntegersThere = (z : ℤ) → unsigned_abs z < 10 ^ 38 → place_in 38 0 (decimal_text 0 z) ≡ Some (At z)
+
+text_is : (z : ℤ) → integer_text z ≡ decimal_text 0 z
+text_is (pos m) = sym (append-nil (decimal m))
+text_is (negsuc m) = ap (λ (l : List ℕ). 45 ∷ l) (sym (append-nil (decimal (suc m))))
+
+numeral_of : (m : ℕ) → m < 2 ^ 64 → IsNumeral 10 (decimal m)
+numeral_of m small = (decimal_is_IsNumeral m small).0
+
+is_number : (z : ℤ) → unsigned_abs z < 2 ^ 64 → IsNumber (integer_text z)
+is_number (pos m) small = record { negative = false; whole = decimal m; fraction = None; power = None; text = sym (append-nil (decimal m)); digits = numeral_of m small; places = tt; raised = tt }
+is_number (negsuc m) small =
+    record { negative = true; whole = decimal (suc m); fraction = None; power = None; text = ap (λ (l : List ℕ). 45 ∷ l) (sym (append-nil (decimal (suc m)))); digits = numeral_of (suc m) small; places = tt; raised = tt }
+
+integer_small : (k : PType) (z : ℤ) → in_range k z ≡ true → unsigned_abs z < 2 ^ 64
+integer_small k (pos m) h = passed_small k m h
+integer_small k (negsuc m) h = passed_negative k m h
+
+integer_there : IntegersThere → (k : PType) (z : ℤ) → in_range k z ≡ true → integer_in k (integer_text z) ≡ Some (exactly (number_cell k z))
+integer_there there k z h =
+    let small : unsigned_abs z < 2 ^ 64 = integer_small k z h in
+    ap (integer_in k) (text_is z) ∙ ap (option_map (integer_at k)) (there z (omega (arith, small))) ∙ ap (λ (b : Bool). Some (cond b (exactly (number_cell k z)) (lacking (int_cmp (pos 0) z)))) h
+
+number_printed : IntegersThere → (k : PType) (z : ℤ) (n : _) → InRange k z → Said (integer_type k n) (number_cell k z)
 unfolding literal_of
-number_printed k (pos m) n inside = record { literal = number_literal (pos m); says = refl; stands = rw (in_range_true k (pos m) inside) refl; token = passed_small k m (in_range_true k (pos m) inside) }
-number_printed k (negsuc m) n inside = record { literal = number_literal (negsuc m); says = refl; stands = rw (in_range_true k (negsuc m) inside) refl; token = passed_negative k m (in_range_true k (negsuc m) inside) }
-
-said_of : (t : TypeTree) (x y : Cell) → x ≡ y → Said t y → Said t x
-said_of t x y same said = subst (λ (z : Cell). Said t z) (sym same) said
-
-truth_printed : (b : Bool) (n : _) → Said (bool_type n) (truth_cell b)
-unfolding literal_of
-truth_printed true n = record { literal = truth_literal true; says = refl; stands = refl; token = tt }
-truth_printed false n = record { literal = truth_literal false; says = refl; stands = refl; token = tt }
-
-null_printed : (t : TypeTree) → Said t (null_cell t)
-unfolding literal_of
-null_printed t = record { literal = null_literal; says = refl; stands = refl; token = tt }
-
-text_printed : (bs : List ℕ) (n : _) → Said (utf8_type n) (text_cell bs)
-unfolding literal_of
-text_printed bs n = record { literal = text_literal bs; says = refl; stands = refl; token = tt }
-
-bytes_printed : (bs : List ℕ) (n : _) → AllByRecursion (λ b. b < 256) bs → Said (binary_type n) (bytes_cell bs)
-unfolding literal_of
-bytes_printed bs n small = record { literal = bytes_literal bs; says = refl; stands = refl; token = small }
-
-value_printed : (t : TypeTree) (x : Cell) → IsValueLiteral t x → Said t x
-value_printed (bool_type n) x v = said_of (bool_type n) x (truth_cell v.0) v.1 (truth_printed v.0 n)
-value_printed (integer_type k n) x v = said_of (integer_type k n) x (number_cell k v.0) v.2 (number_printed k v.0 n v.1)
-value_printed (utf8_type n) x v = said_of (utf8_type n) x (text_cell v.0) v.2 (text_printed v.0 n)
-value_printed (binary_type n) x v = said_of (binary_type n) x (bytes_cell v.0) v.2 (bytes_printed v.0 n v.1)
-value_printed _ x v = absurd v
-
-literal_printed : (t : TypeTree) (x : Cell) → IsLiteral t x → Said t x
-literal_printed t x (inl same) = said_of t x (null_cell t) same (null_printed t)
-literal_printed t x (inr v) = value_printed t x v
-
--- ---- literals in parentheses
-
-abbrev exactlies : List Cell → List PositionTree
-exactlies [] = []
-exactlies (x ∷ xs) = exactly x ∷ exactlies xs
-
-cells_back : (xs : List Cell) → cells_of (exactlies xs) ≡ xs
-cells_back [] = refl
-cells_back (x ∷ xs) = ap (λ (ys : List Cell). x ∷ ys) (cells_back xs)
-
--- the tokens of cells are literals that stand there
-record SaidList (t : TypeTree) (xs : List Cell) : Type 0 where
-  literals : List LiteralTree
-  are : AreLiterals (literal_tokens xs) literals
-  stand : positions_of t literals ≡ Some (exactlies xs)
-
-literals_printed : (t : TypeTree) (x : Cell) (xs : List Cell) → AllByRecursion (IsLiteral t) (x ∷ xs) → SaidList t (x ∷ xs)
-literals_printed t x [] h =
-    let s = literal_printed t x h.0 in
-    record { literals = s.literal ∷ []; are = one_literal s.says; stand = stand_more t s.literal (exactly x) [] [] s.stands refl }
-literals_printed t x (y ∷ ys) h =
-    let s = literal_printed t x h.0 in
-    let more = literals_printed t y ys h.1 in
-    record { literals = s.literal ∷ more.literals; are = more_literals s.says more.are; stand = stand_more t s.literal (exactly x) more.literals (exactlies (y ∷ ys)) s.stands more.stand }
-
-literals_are_tokens : (t : TypeTree) (xs : List Cell) → AllByRecursion (IsLiteral t) xs → AreTokens (literal_tokens xs)
-literals_are_tokens t [] h = tt
-literals_are_tokens t (x ∷ []) h = ((literal_printed t x h.0).token, tt)
-literals_are_tokens t (x ∷ y ∷ ys) h = ((literal_printed t x h.0).token, (tt, literals_are_tokens t (y ∷ ys) h.1))
-
-abbrev member_tokens : List Cell → List TokenTree
-member_tokens xs = keyword_token keywords.In ∷ opening ∷ (literal_tokens xs ++ closing ∷ [])
-
--- tokens that are a test of column k, of type t, with this formula
-record PrintedTest (k : ℕ) (t : TypeTree) (ts : List TokenTree) (f : Formula) : Type 0 where
-  condition : Condition
-  means : IsTest ts condition
-  says : formula_in k t condition ≡ Some f
-
-members_printed : (k : ℕ) (t : TypeTree) (xs : List Cell) → AllByRecursion (IsLiteral t) xs → PrintedTest k t (member_tokens xs) (membership k xs)
-members_printed k t [] h = record { condition = listed []; means = in_nothing; says = refl }
-members_printed k t (x ∷ xs) h =
-    let said = literals_printed t x xs h in
-    record { condition = listed said.literals; means = in_literals said.are; says = ap (option_map (member_among k)) said.stand ∙ ap (λ (ys : List Cell). Some (member_of k ys)) (cells_back (x ∷ xs)) }
-
-range_printed : (k : ℕ) (t : TypeTree) (x y : Cell) → Said t x → Said t y → PrintedTest k t (keyword_token keywords.Between ∷ literal_token x ∷ keyword_token keywords.And ∷ literal_token y ∷ []) (range k x y)
-range_printed k t x y low high = record {
-  condition = between low.literal high.literal;
-  means = between_literals low.says high.says;
-  says = between_says k t low.literal high.literal (exactly x) (exactly y) low.stands high.stands;
-}
-
-members_are_tokens : (t : TypeTree) (xs : List Cell) → AllByRecursion (IsLiteral t) xs → AreTokens (member_tokens xs)
-members_are_tokens t xs h = (tt, (tt, tokens_append (literal_tokens xs) (closing ∷ []) (literals_are_tokens t xs h) (tt, tt)))
-
--- ---- prefixes
-
-or_parts : (a b : Bool) → (a || b) ≡ false → (a ≡ false) × (b ≡ false)
-or_parts true b e = absurd cc
-or_parts false b e = (refl, e)
-
-and_false : (a b : Bool) → b ≡ false → (a && b) ≡ false
-and_false true b e = e
-and_false false b e = refl
-
-record Behind (bs : List ℕ) : Type 0 where
-  first : ℕ
-  others : List ℕ
-  whole : bs ++ 37 ∷ [] ≡ first ∷ others
+number_printed there k z n inside =
+    let h = in_range_true k z inside in
+    record { literal = number_literal (integer_text z); says = refl; stands = integer_there there k z h; token = is_number z (integer_small k z h) }
+
+-- where an integer's digits are read as it
+module _ (there : IntegersThere) where
+  said_of : (t : TypeTree) (x y : Cell) → x ≡ y → Said t y → Said t x
+  said_of t x y same said = subst (λ (z : Cell). Said t z) (sym same) said
+
+  truth_printed : (b : Bool) (n : _) → Said (bool_type n) (truth_cell b)
+  unfolding literal_of
+  truth_printed true n = record { literal = truth_literal true; says = refl; stands = refl; token = tt }
+  truth_printed false n = record { literal = truth_literal false; says = refl; stands = refl; token = tt }
+
+  null_printed : (t : TypeTree) → Said t (null_cell t)
+  unfolding literal_of
+  null_printed t = record { literal = null_literal; says = refl; stands = refl; token = tt }
+
+  text_printed : (bs : List ℕ) (n : _) → Said (utf8_type n) (text_cell bs)
+  unfolding literal_of
+  text_printed bs n = record { literal = text_literal bs; says = refl; stands = refl; token = tt }
+
+  bytes_printed : (bs : List ℕ) (n : _) → AllByRecursion (λ b. b < 256) bs → Said (binary_type n) (bytes_cell bs)
+  unfolding literal_of
+  bytes_printed bs n small = record { literal = bytes_literal bs; says = refl; stands = refl; token = small }
+
+  value_printed : (t : TypeTree) (x : Cell) → IsValueLiteral t x → Said t x
+  value_printed (bool_type n) x v = said_of (bool_type n) x (truth_cell v.0) v.1 (truth_printed v.0 n)
+  value_printed (integer_type k n) x v = said_of (integer_type k n) x (number_cell k v.0) v.2 (number_printed there k v.0 n v.1)
+  value_printed (utf8_type n) x v = said_of (utf8_type n) x (text_cell v.0) v.2 (text_printed v.0 n)
+  value_printed (binary_type n) x v = said_of (binary_type n) x (bytes_cell v.0) v.2 (bytes_printed v.0 n v.1)
+  value_printed _ x v = absurd v
+
+  literal_printed : (t : TypeTree) (x : Cell) → IsLiteral t x → Said t x
+  literal_printed t x (inl same) = said_of t x (null_cell t) same (null_printed t)
+  literal_printed t x (inr v) = value_printed t x v
+
+  -- ---- literals in parentheses
+
+  abbrev exactlies : List Cell → List PositionTree
+  exactlies [] = []
+  exactlies (x ∷ xs) = exactly x ∷ exactlies xs
+
+  cells_back : (xs : List Cell) → cells_of (exactlies xs) ≡ xs
+  cells_back [] = refl
+  cells_back (x ∷ xs) = ap (λ (ys : List Cell). x ∷ ys) (cells_back xs)
+
+  -- the tokens of cells are literals that stand there
+  record SaidList (t : TypeTree) (xs : List Cell) : Type 0 where
+    literals : List LiteralTree
+    are : AreLiterals (literal_tokens xs) literals
+    stand : positions_of t literals ≡ Some (exactlies xs)
+
+  literals_printed : (t : TypeTree) (x : Cell) (xs : List Cell) → AllByRecursion (IsLiteral t) (x ∷ xs) → SaidList t (x ∷ xs)
+  literals_printed t x [] h =
+      let s = literal_printed t x h.0 in
+      record { literals = s.literal ∷ []; are = one_literal s.says; stand = stand_more t s.literal (exactly x) [] [] s.stands refl }
+  literals_printed t x (y ∷ ys) h =
+      let s = literal_printed t x h.0 in
+      let more = literals_printed t y ys h.1 in
+      record { literals = s.literal ∷ more.literals; are = more_literals s.says more.are; stand = stand_more t s.literal (exactly x) more.literals (exactlies (y ∷ ys)) s.stands more.stand }
+
+  literals_are_tokens : (t : TypeTree) (xs : List Cell) → AllByRecursion (IsLiteral t) xs → AreTokens (literal_tokens xs)
+  literals_are_tokens t [] h = tt
+  literals_are_tokens t (x ∷ []) h = ((literal_printed t x h.0).token, tt)
+  literals_are_tokens t (x ∷ y ∷ ys) h = ((literal_printed t x h.0).token, (tt, literals_are_tokens t (y ∷ ys) h.1))
+
+  abbrev member_tokens : List Cell → List TokenTree
+  member_tokens xs = keyword_token keywords.In ∷ opening ∷ (literal_tokens xs ++ closing ∷ [])
+
+  -- tokens that are a test of column k, of type t, with this formula
+  record PrintedTest (k : ℕ) (t : TypeTree) (ts : List TokenTree) (f : Formula) : Type 0 where
+    condition : Condition
+    means : IsTest ts condition
+    says : formula_in k t condition ≡ Some f
+
+  members_printed : (k : ℕ) (t : TypeTree) (xs : List Cell) → AllByRecursion (IsLiteral t) xs → PrintedTest k t (member_tokens xs) (membership k xs)
+  members_printed k t [] h = record { condition = listed []; means = in_nothing; says = refl }
+  members_printed k t (x ∷ xs) h =
+      let said = literals_printed t x xs h in
+      record { condition = listed said.literals; means = in_literals said.are; says = ap (option_map (member_among k)) said.stand ∙ ap (λ (ys : List Cell). Some (member_of k ys)) (cells_back (x ∷ xs)) }
+
+  range_printed : (k : ℕ) (t : TypeTree) (x y : Cell) → Said t x → Said t y → PrintedTest k t (keyword_token keywords.Between ∷ literal_token x ∷ keyword_token keywords.And ∷ literal_token y ∷ []) (range k x y)
+  range_printed k t x y low high = record {
+    condition = between low.literal high.literal;
+    means = between_literals low.says high.says;
+    says = between_says k t low.literal high.literal (exactly x) (exactly y) low.stands high.stands;
+  }
+
+  members_are_tokens : (t : TypeTree) (xs : List Cell) → AllByRecursion (IsLiteral t) xs → AreTokens (member_tokens xs)
+  members_are_tokens t xs h = (tt, (tt, tokens_append (literal_tokens xs) (closing ∷ []) (literals_are_tokens t xs h) (tt, tt)))
+
+  -- ---- prefixes
+
+  or_parts : (a b : Bool) → (a || b) ≡ false → (a ≡ false) × (b ≡ false)
+  or_parts true b e = absurd cc
+  or_parts false b e = (refl, e)
+
+  and_false : (a b : Bool) → b ≡ false → (a && b) ≡ false
+  and_false true b e = e
+  and_false false b e = refl
 
-some_behind : (bs : List ℕ) → Behind bs
-some_behind [] = record { first = 37; others = []; whole = refl }
-some_behind (b ∷ bs) = record { first = b; others = bs ++ 37 ∷ []; whole = refl }
+  record Behind (bs : List ℕ) : Type 0 where
+    first : ℕ
+    others : List ℕ
+    whole : bs ++ 37 ∷ [] ≡ first ∷ others
 
--- whether backslashes escape, where they have to
-abbrev Escaping : Bool → List ℕ → Type 0
-Escaping escapes bs = (escapes ≡ true) ⊎ (list_any is_special bs ≡ false)
+  some_behind : (bs : List ℕ) → Behind bs
+  some_behind [] = record { first = 37; others = []; whole = refl }
+  some_behind (b ∷ bs) = record { first = b; others = bs ++ 37 ∷ []; whole = refl }
 
-escaping_rest : (escapes : Bool) (b : ℕ) (bs : List ℕ) → Escaping escapes (b ∷ bs) → Escaping escapes bs
-escaping_rest escapes b bs (inl e) = inl e
-escaping_rest escapes b bs (inr e) = inr (or_parts (is_special b) (list_any is_special bs) e).1
+  -- whether backslashes escape, where they have to
+  abbrev Escaping : Bool → List ℕ → Type 0
+  Escaping escapes bs = (escapes ≡ true) ⊎ (list_any is_special bs ≡ false)
 
-abbrev escaped : List ℕ → List ℕ
-escaped bs = flat_map escaped_byte bs ++ 37 ∷ []
+  escaping_rest : (escapes : Bool) (b : ℕ) (bs : List ℕ) → Escaping escapes (b ∷ bs) → Escaping escapes bs
+  escaping_rest escapes b bs (inl e) = inl e
+  escaping_rest escapes b bs (inr e) = inr (or_parts (is_special b) (list_any is_special bs) e).1
 
-escaped_by : (escapes : Bool) (b : ℕ) (bs : List ℕ) (special : Bool) → is_special b ≡ special → Escaping escapes (b ∷ bs) → pattern_prefix escapes (escaped bs) ≡ Some bs → pattern_prefix escapes ((cond special (92 ∷ b ∷ []) (b ∷ []) ++ flat_map escaped_byte bs) ++ 37 ∷ []) ≡ Some (b ∷ bs)
-escaped_by escapes b bs true is (inl e) rest = step_escape escapes 92 b (escaped bs) (rw e refl) ∙ ap (with_byte b) rest
-escaped_by escapes b bs true is (inr e) rest = let p = or_parts (is_special b) (list_any is_special bs) e in let both : true ≡ false = sym is ∙ p.0 in absurd cc
-escaped_by escapes b bs false is h rest =
-    let p = or_parts (is_wildcard b) (b == 92) is in
-    let behind = some_behind (flat_map escaped_byte bs) in
-    ap (λ (r : List ℕ). pattern_prefix escapes (b ∷ r)) behind.whole ∙ step_plain escapes b behind.first behind.others (and_false escapes (b == 92) p.1) p.0
-    ∙ ap (λ (r : List ℕ). with_byte b (pattern_prefix escapes r)) (sym behind.whole) ∙ ap (with_byte b) rest
+  abbrev escaped : List ℕ → List ℕ
+  escaped bs = flat_map escaped_byte bs ++ 37 ∷ []
 
-pattern_back : (escapes : Bool) (bs : List ℕ) → Escaping escapes bs → pattern_prefix escapes (escaped bs) ≡ Some bs
-unfolding pattern_prefix
-pattern_back escapes [] h = refl
-pattern_back escapes (b ∷ bs) h =
-    ap (λ (r : List ℕ). pattern_prefix escapes (r ++ 37 ∷ [])) (flat_map-cons escaped_byte b bs)
-    ∙ escaped_by escapes b bs (is_special b) refl h (pattern_back escapes bs (escaping_rest escapes b bs h))
+  escaped_by : (escapes : Bool) (b : ℕ) (bs : List ℕ) (special : Bool) → is_special b ≡ special → Escaping escapes (b ∷ bs) → pattern_prefix escapes (escaped bs) ≡ Some bs → pattern_prefix escapes ((cond special (92 ∷ b ∷ []) (b ∷ []) ++ flat_map escaped_byte bs) ++ 37 ∷ []) ≡ Some (b ∷ bs)
+  escaped_by escapes b bs true is (inl e) rest = step_escape escapes 92 b (escaped bs) (rw e refl) ∙ ap (with_byte b) rest
+  escaped_by escapes b bs true is (inr e) rest = let p = or_parts (is_special b) (list_any is_special bs) e in let both : true ≡ false = sym is ∙ p.0 in absurd cc
+  escaped_by escapes b bs false is h rest =
+      let p = or_parts (is_wildcard b) (b == 92) is in
+      let behind = some_behind (flat_map escaped_byte bs) in
+      ap (λ (r : List ℕ). pattern_prefix escapes (b ∷ r)) behind.whole ∙ step_plain escapes b behind.first behind.others (and_false escapes (b == 92) p.1) p.0
+      ∙ ap (λ (r : List ℕ). with_byte b (pattern_prefix escapes r)) (sym behind.whole) ∙ ap (with_byte b) rest
 
-abbrev like_with : Bool → List ℕ → List TokenTree
-like_with special bs = keyword_token keywords.Like ∷ string_token (prefix_pattern bs) ∷ cond special (keyword_token keywords.Escape ∷ string_token (92 ∷ []) ∷ []) []
+  pattern_back : (escapes : Bool) (bs : List ℕ) → Escaping escapes bs → pattern_prefix escapes (escaped bs) ≡ Some bs
+  unfolding pattern_prefix
+  pattern_back escapes [] h = refl
+  pattern_back escapes (b ∷ bs) h =
+      ap (λ (r : List ℕ). pattern_prefix escapes (r ++ 37 ∷ [])) (flat_map-cons escaped_byte b bs)
+      ∙ escaped_by escapes b bs (is_special b) refl h (pattern_back escapes bs (escaping_rest escapes b bs h))
 
-like_by : (k : ℕ) (n : _) (bs : List ℕ) (special : Bool) → list_any is_special bs ≡ special → IsUtf8 bs → PrintedTest k (utf8_type n) (like_with special bs) (prefix_test k (text_cell bs))
-like_by k n bs true is utf8 = record { condition = begun (text_literal bs); means = like_escaped (pattern_back true bs (inl refl)) (is_utf8-from_IsUtf8 bs utf8); says = refl }
-like_by k n bs false is utf8 = record { condition = begun (text_literal bs); means = like_pattern (pattern_back false bs (inr is)) (is_utf8-from_IsUtf8 bs utf8); says = refl }
+  abbrev like_with : Bool → List ℕ → List TokenTree
+  like_with special bs = keyword_token keywords.Like ∷ string_token (prefix_pattern bs) ∷ cond special (keyword_token keywords.Escape ∷ string_token (92 ∷ []) ∷ []) []
 
-like_are_tokens : (special : Bool) (bs : List ℕ) → AreTokens (like_with special bs)
-like_are_tokens true bs = (tt, (tt, (tt, (tt, tt))))
-like_are_tokens false bs = (tt, (tt, tt))
+  like_by : (k : ℕ) (n : _) (bs : List ℕ) (special : Bool) → list_any is_special bs ≡ special → IsUtf8 bs → PrintedTest k (utf8_type n) (like_with special bs) (prefix_test k (text_cell bs))
+  like_by k n bs true is utf8 = record { condition = begun (text_literal bs); means = like_escaped (pattern_back true bs (inl refl)) (is_utf8-from_IsUtf8 bs utf8); says = refl }
+  like_by k n bs false is utf8 = record { condition = begun (text_literal bs); means = like_pattern (pattern_back false bs (inr is)) (is_utf8-from_IsUtf8 bs utf8); says = refl }
 
--- ---- predicates
+  like_are_tokens : (special : Bool) (bs : List ℕ) → AreTokens (like_with special bs)
+  like_are_tokens true bs = (tt, (tt, (tt, (tt, tt))))
+  like_are_tokens false bs = (tt, (tt, tt))
 
-module _ (columns : List ColumnTree) (names : List (List ℕ)) where
-  -- tokens that are a predicate with this formula
-  record PrintedPredicate (ts : List TokenTree) (f : Formula) : Type 0 where
-    means : IsPredicate columns ts f
-    tokens : AreTokens ts
+  -- ---- predicates
 
-  call_printed : (k : ℕ) (t : TypeTree) (x : Cell) → IsFound columns names k t → holds_strings t ≡ true → Said t x → PrintedPredicate (keyword_token keywords.StartsWith ∷ opening ∷ column_token names k ∷ comma ∷ literal_token x ∷ closing ∷ []) (prefix_test k x)
-  call_printed k t x found strings said = record { means = prefix_call found said.says (begun_says k t said.literal (exactly x) (prefix_test k x) strings said.stands refl); tokens = (tt, (tt, (tt, (tt, (said.token, (tt, tt)))))) }
+  module _ (columns : List ColumnTree) (names : List (List ℕ)) where
+    -- tokens that are a predicate with this formula
+    record PrintedPredicate (ts : List TokenTree) (f : Formula) : Type 0 where
+      means : IsPredicate columns ts f
+      tokens : AreTokens ts
 
-  abbrev PrintedPrefix : ℕ → Cell → Type 0
-  PrintedPrefix k x = PrintedPredicate (prefix_tokens (column_token names k) x.content) (prefix_test k x)
+    call_printed : (k : ℕ) (t : TypeTree) (x : Cell) → IsFound columns names k t → holds_strings t ≡ true → Said t x → PrintedPredicate (keyword_token keywords.StartsWith ∷ opening ∷ column_token names k ∷ comma ∷ literal_token x ∷ closing ∷ []) (prefix_test k x)
+    call_printed k t x found strings said = record { means = prefix_call found said.says (begun_says k t said.literal (exactly x) (prefix_test k x) strings said.stands refl); tokens = (tt, (tt, (tt, (tt, (said.token, (tt, tt)))))) }
 
-  like_printed : (k : ℕ) (n : _) (bs : List ℕ) → IsFound columns names k (utf8_type n) → IsUtf8 bs → PrintedPrefix k (text_cell bs)
-  like_printed k n bs found utf8 = let test = like_by k n bs (list_any is_special bs) refl utf8 in record { means = on_column found (bare_test test.means) test.says; tokens = (tt, like_are_tokens (list_any is_special bs) bs) }
-
-  prefix_at : (k : ℕ) (x y : Cell) → x ≡ y → PrintedPrefix k y → PrintedPrefix k x
-  prefix_at k x y same printed = subst (λ (z : Cell). PrintedPrefix k z) (sym same) printed
-
-  value_prefix : (k : ℕ) (t : TypeTree) (x : Cell) → IsFound columns names k t → holds_strings t ≡ true → IsValueLiteral t x → PrintedPrefix k x
-  value_prefix k (utf8_type n) x found strings v = prefix_at k x (text_cell v.0) v.2 (like_printed k n v.0 found v.1)
-  value_prefix k (binary_type n) x found strings v = prefix_at k x (bytes_cell v.0) v.2 (call_printed k (binary_type n) (bytes_cell v.0) found strings (bytes_printed v.0 n v.1))
-  value_prefix k _ x found strings v = absurd cc
-
-  prefix_printed : (k : ℕ) (t : TypeTree) (x : Cell) → IsFound columns names k t → holds_strings t ≡ true → IsLiteral t x → PrintedPrefix k x
-  prefix_printed k t x found strings (inl same) = prefix_at k x (null_cell t) same (call_printed k t (null_cell t) found strings (null_printed t))
-  prefix_printed k t x found strings (inr v) = value_prefix k t x found strings v
-
-  -- ---- filters
-
-  record Printed (l : Level) (n : ℕ) (ts : List TokenTree) (f : Formula) : Type 0 where
-    means : IsFilter columns l n ts f
-    tokens : AreTokens ts
-
-  lifted : (l : Level) (n : ℕ) (ts : List TokenTree) (f : Formula) → Printed levels.Not n ts f → Printed l n ts f
-  lifted levels.Or n ts f p = record { means = one_conjunction (one_operand p.means); tokens = p.tokens }
-  lifted levels.And n ts f p = record { means = one_operand p.means; tokens = p.tokens }
-  lifted levels.Not n ts f p = p
-
-  plain : (l : Level) (n : ℕ) (ts : List TokenTree) (f : Formula) → PrintedPredicate ts f → Printed l n ts f
-  plain l n ts f p = lifted l n ts f (record { means = predicate p.means; tokens = p.tokens })
-
-  conditional : (l : Level) (n k : ℕ) (t : TypeTree) (ts : List TokenTree) (c : Condition) (f : Formula) → IsFound columns names k t → IsCondition ts c → formula_in k t c ≡ Some f → AreTokens ts → Printed l n (column_token names k ∷ ts) f
-  conditional l n k t ts c f found means says tokens = plain l n (column_token names k ∷ ts) f (record { means = on_column found means says; tokens = (tt, tokens) })
-
-  tested : (l : Level) (n k : ℕ) (t : TypeTree) (ts : List TokenTree) (f : Formula) → IsFound columns names k t → PrintedTest k t ts f → AreTokens ts → Printed l n (column_token names k ∷ ts) f
-  tested l n k t ts f found test tokens = conditional l n k t ts test.condition f found (bare_test test.means) test.says tokens
-
-  denied_test : (l : Level) (n k : ℕ) (t : TypeTree) (ts : List TokenTree) (f : Formula) → IsFound columns names k t → PrintedTest k t ts f → AreTokens ts → Printed l n (column_token names k ∷ keyword_token keywords.Not ∷ ts) (negation f)
-  denied_test l n k t ts f found test tokens = conditional l n k t (keyword_token keywords.Not ∷ ts) (denied test.condition) (negation f) found (not_test test.means) (ap (option_map negation) test.says) (tt, tokens)
-
-  negated : (l : Level) (m : ℕ) (ts : List TokenTree) (f : Formula) → Printed levels.Not m ts f → Printed l (suc m) (keyword_token keywords.Not ∷ ts) (negation f)
-  negated l m ts f p = lifted l (suc m) (keyword_token keywords.Not ∷ ts) (negation f) (record { means = not_filter p.means; tokens = (tt, p.tokens) })
-
-  grouping : (m : ℕ) (ts : List TokenTree) (f : Formula) → Printed levels.Or m ts f → Printed levels.Not (suc m) (opening ∷ (ts ++ closing ∷ [])) f
-  grouping m ts f p = record { means = group p.means; tokens = (tt, tokens_append ts (closing ∷ []) p.tokens (tt, tt)) }
-
-  and_made : (m : ℕ) (ts us : List TokenTree) (f g : Formula) → Printed levels.Not (suc m) ts f → Printed levels.And m us g → Printed levels.And (suc m) (ts ++ keyword_token keywords.And ∷ us) (both f g)
-  and_made m ts us f g p q = record { means = and_filter p.means q.means; tokens = tokens_append ts (keyword_token keywords.And ∷ us) p.tokens (tt, q.tokens) }
-
-  or_made : (m : ℕ) (ts us : List TokenTree) (f g : Formula) → Printed levels.And (suc m) ts f → Printed levels.Or m us g → Printed levels.Or (suc m) (ts ++ keyword_token keywords.Or ∷ us) (either f g)
-  or_made m ts us f g p q = record { means = or_filter p.means q.means; tokens = tokens_append ts (keyword_token keywords.Or ∷ us) p.tokens (tt, q.tokens) }
-
-  widened : (n : ℕ) (ts : List TokenTree) (f : Formula) → Printed levels.And n ts f → Printed levels.Or n ts f
-  widened n ts f p = record { means = one_conjunction p.means; tokens = p.tokens }
-
-  moved : (l : Level) (m n : ℕ) (ts : List TokenTree) (f : Formula) → n ≡ m → Printed l m ts f → Printed l n ts f
-  moved l m n ts f same p = subst (λ (k : ℕ). Printed l k ts f) (sym same) p
-
-  abbrev At : Level → ℕ → Formula → Type 0
-  At l n f = Printed l n (tokens_at names l f) f
-
-  -- two printed filters with `and`, and with `or`, between them
-  abbrev conjoined : Formula → Formula → List TokenTree
-  conjoined f g = tokens_at names levels.Not f ++ (keyword_token keywords.And ∷ tokens_at names levels.And g)
-
-  abbrev disjoined : Formula → Formula → List TokenTree
-  disjoined f g = tokens_at names levels.And f ++ (keyword_token keywords.Or ∷ tokens_at names levels.Or g)
-
-  -- what a printed filter needs
-  abbrev Prints : Formula → Type 0
-  Prints f = (l : Level) (n : ℕ) → depth_at l f ≤ n → At l n f
-
-  less : (a b n : ℕ) → max (suc a) b ≤ n → (n ≡ suc (n - 1)) × (a ≤ n - 1) × (b ≤ suc (n - 1))
-  less a b n h =
-      let left : suc a ≤ max (suc a) b = le-max_left (suc a) b in
-      let right : b ≤ max (suc a) b = le-max_right (suc a) b in
-      (omega arith, omega arith, omega arith)
-
-  and_bare : (f g : Formula) → Prints f → Prints g → (n : ℕ) → max (suc (depth_at levels.And g)) (depth_at levels.Not f) ≤ n → Printed levels.And n (conjoined f g) (both f g)
-  and_bare f g p q n h =
-      let parts = less (depth_at levels.And g) (depth_at levels.Not f) n h in
-      moved levels.And (suc (n - 1)) n (conjoined f g) (both f g) parts.0
-      (and_made (n - 1) (tokens_at names levels.Not f) (tokens_at names levels.And g) f g (p levels.Not (suc (n - 1)) parts.2) (q levels.And (n - 1) parts.1))
-
-  or_bare : (f g : Formula) → Prints f → Prints g → (n : ℕ) → max (suc (depth_at levels.Or g)) (depth_at levels.And f) ≤ n → Printed levels.Or n (disjoined f g) (either f g)
-  or_bare f g p q n h =
-      let parts = less (depth_at levels.Or g) (depth_at levels.And f) n h in
-      moved levels.Or (suc (n - 1)) n (disjoined f g) (either f g) parts.0
-      (or_made (n - 1) (tokens_at names levels.And f) (tokens_at names levels.Or g) f g (p levels.And (suc (n - 1)) parts.2) (q levels.Or (n - 1) parts.1))
-
-  in_group : (d n : ℕ) → suc d ≤ n → (n ≡ suc (n - 1)) × (d ≤ n - 1)
-  in_group d n h = (omega arith, omega arith)
-
-  and_printed : (f g : Formula) → Prints f → Prints g → Prints (both f g)
-  and_printed f g p q levels.Or n h = widened n (conjoined f g) (both f g) (and_bare f g p q n h)
-  and_printed f g p q levels.And n h = and_bare f g p q n h
-  and_printed f g p q levels.Not n h =
-      let parts = in_group (max (suc (depth_at levels.And g)) (depth_at levels.Not f)) n h in
-      moved levels.Not (suc (n - 1)) n (opening ∷ (conjoined f g ++ closing ∷ [])) (both f g) parts.0
-      (grouping (n - 1) (conjoined f g) (both f g) (widened (n - 1) (conjoined f g) (both f g) (and_bare f g p q (n - 1) parts.1)))
-
-  or_grouped : (f g : Formula) → Prints f → Prints g → (n : ℕ) → suc (max (suc (depth_at levels.Or g)) (depth_at levels.And f)) ≤ n → Printed levels.Not n (opening ∷ (disjoined f g ++ closing ∷ [])) (either f g)
-  or_grouped f g p q n h =
-      let parts = in_group (max (suc (depth_at levels.Or g)) (depth_at levels.And f)) n h in
-      moved levels.Not (suc (n - 1)) n (opening ∷ (disjoined f g ++ closing ∷ [])) (either f g) parts.0
-      (grouping (n - 1) (disjoined f g) (either f g) (or_bare f g p q (n - 1) parts.1))
-
-  or_printed : (f g : Formula) → Prints f → Prints g → Prints (either f g)
-  or_printed f g p q levels.Or n h = or_bare f g p q n h
-  or_printed f g p q levels.And n h = lifted levels.And n (opening ∷ (disjoined f g ++ closing ∷ [])) (either f g) (or_grouped f g p q n h)
-  or_printed f g p q levels.Not n h = or_grouped f g p q n h
-
-  negation_printed : (f : Formula) → Prints f → (l : Level) (n : ℕ) → suc (depth_at levels.Not f) ≤ n → Printed l n (keyword_token keywords.Not ∷ tokens_at names levels.Not f) (negation f)
-  negation_printed f p l n h =
-      let parts = in_group (depth_at levels.Not f) n h in
-      moved l (suc (n - 1)) n (keyword_token keywords.Not ∷ tokens_at names levels.Not f) (negation f) parts.0
-      (negated l (n - 1) (tokens_at names levels.Not f) f (p levels.Not (n - 1) parts.1))
-
-  constant_printed : (t : _) → Prints (constant t)
-  constant_printed truths.True l n h = plain l n (keyword_token keywords.True ∷ []) (constant truths.True) (record { means = says_true; tokens = (tt, tt) })
-  constant_printed truths.False l n h = plain l n (keyword_token keywords.False ∷ []) (constant truths.False) (record { means = says_false; tokens = (tt, tt) })
-  constant_printed truths.Unknown l n h = plain l n (keyword_token keywords.Null ∷ []) (constant truths.Unknown) (record { means = says_null; tokens = (tt, tt) })
-
-  -- a filter whose columns are found and whose literals are their types' is printed in the grammar
-  printed : (f : Formula) → IsReadable columns names f → Prints f
-  printed (constant t) r l n h = constant_printed t l n h
-  printed (comparison k op x) r l n h =
-      let said = literal_printed r.0 x r.2 in
-      conditional l n k r.0 _ (compared op said.literal) (comparison k op x) r.1 (compares said.says) (ap (option_map (comparison_of k op)) said.stands) (tt, (said.token, tt))
-  printed (null_test k) r l n h = conditional l n k r.0 _ missing (null_test k) r.1 is_null refl (tt, (tt, tt))
-  printed (membership k xs) r l n h = tested l n k r.0 (member_tokens xs) (membership k xs) r.1 (members_printed k r.0 xs r.2) (members_are_tokens r.0 xs r.2)
-  printed (range k x y) r l n h =
-      let low = literal_printed r.0 x r.2 in
-      let high = literal_printed r.0 y r.3 in
-      tested l n k r.0 _ (range k x y) r.1 (range_printed k r.0 x y low high) (tt, (low.token, (tt, (high.token, tt))))
-  printed (prefix_test k x) r l n h = plain l n (prefix_tokens (column_token names k) x.content) (prefix_test k x) (prefix_printed k r.0 x r.1 r.2 r.3)
-  printed (both f g) r l n h = and_printed f g (printed f r.0) (printed g r.1) l n h
-  printed (either f g) r l n h = or_printed f g (printed f r.0) (printed g r.1) l n h
-  printed (negation (null_test k)) r l n h = conditional l n k r.0 _ (denied missing) (negation (null_test k)) r.1 is_not_null refl (tt, (tt, (tt, tt)))
-  printed (negation (membership k xs)) r l n h = denied_test l n k r.0 (member_tokens xs) (membership k xs) r.1 (members_printed k r.0 xs r.2) (members_are_tokens r.0 xs r.2)
-  printed (negation (range k x y)) r l n h =
-      let low = literal_printed r.0 x r.2 in
-      let high = literal_printed r.0 y r.3 in
-      denied_test l n k r.0 _ (range k x y) r.1 (range_printed k r.0 x y low high) (tt, (low.token, (tt, (high.token, tt))))
-  printed (negation (constant t)) r l n h = negation_printed (constant t) (printed (constant t) r) l n h
-  printed (negation (comparison k op x)) r l n h = negation_printed (comparison k op x) (printed (comparison k op x) r) l n h
-  printed (negation (prefix_test k x)) r l n h = negation_printed (prefix_test k x) (printed (prefix_test k x) r) l n h
-  printed (negation (both f g)) r l n h = negation_printed (both f g) (printed (both f g) r) l n h
-  printed (negation (either f g)) r l n h = negation_printed (either f g) (printed (either f g) r) l n h
-  printed (negation (negation f)) r l n h = negation_printed (negation f) (printed (negation f) r) l n h
-
-  pub text_means : (f : Formula) (n : ℕ) → IsReadable columns names f → depth f ≤ n → IsFilter columns levels.Or n (tokens_of names f) f
-  text_means f n r h = (printed f r levels.Or n h).means
-
-  pub text_tokens : (f : Formula) (n : ℕ) → IsReadable columns names f → depth f ≤ n → AreTokens (tokens_of names f)
-  text_tokens f n r h = (printed f r levels.Or n h).tokens
+    abbrev PrintedPrefix : ℕ → Cell → Type 0
+    PrintedPrefix k x = PrintedPredicate (prefix_tokens (column_token names k) x.content) (prefix_test k x)
+
+    like_printed : (k : ℕ) (n : _) (bs : List ℕ) → IsFound columns names k (utf8_type n) → IsUtf8 bs → PrintedPrefix k (text_cell bs)
+    like_printed k n bs found utf8 = let test = like_by k n bs (list_any is_special bs) refl utf8 in record { means = on_column found (bare_test test.means) test.says; tokens = (tt, like_are_tokens (list_any is_special bs) bs) }
+
+    prefix_at : (k : ℕ) (x y : Cell) → x ≡ y → PrintedPrefix k y → PrintedPrefix k x
+    prefix_at k x y same printed = subst (λ (z : Cell). PrintedPrefix k z) (sym same) printed
+
+    value_prefix : (k : ℕ) (t : TypeTree) (x : Cell) → IsFound columns names k t → holds_strings t ≡ true → IsValueLiteral t x → PrintedPrefix k x
+    value_prefix k (utf8_type n) x found strings v = prefix_at k x (text_cell v.0) v.2 (like_printed k n v.0 found v.1)
+    value_prefix k (binary_type n) x found strings v = prefix_at k x (bytes_cell v.0) v.2 (call_printed k (binary_type n) (bytes_cell v.0) found strings (bytes_printed v.0 n v.1))
+    value_prefix k _ x found strings v = absurd cc
+
+    prefix_printed : (k : ℕ) (t : TypeTree) (x : Cell) → IsFound columns names k t → holds_strings t ≡ true → IsLiteral t x → PrintedPrefix k x
+    prefix_printed k t x found strings (inl same) = prefix_at k x (null_cell t) same (call_printed k t (null_cell t) found strings (null_printed t))
+    prefix_printed k t x found strings (inr v) = value_prefix k t x found strings v
+
+    -- ---- filters
+
+    record Printed (l : Level) (n : ℕ) (ts : List TokenTree) (f : Formula) : Type 0 where
+      means : IsFilter columns l n ts f
+      tokens : AreTokens ts
+
+    lifted : (l : Level) (n : ℕ) (ts : List TokenTree) (f : Formula) → Printed levels.Not n ts f → Printed l n ts f
+    lifted levels.Or n ts f p = record { means = one_conjunction (one_operand p.means); tokens = p.tokens }
+    lifted levels.And n ts f p = record { means = one_operand p.means; tokens = p.tokens }
+    lifted levels.Not n ts f p = p
+
+    plain : (l : Level) (n : ℕ) (ts : List TokenTree) (f : Formula) → PrintedPredicate ts f → Printed l n ts f
+    plain l n ts f p = lifted l n ts f (record { means = predicate p.means; tokens = p.tokens })
+
+    conditional : (l : Level) (n k : ℕ) (t : TypeTree) (ts : List TokenTree) (c : Condition) (f : Formula) → IsFound columns names k t → IsCondition ts c → formula_in k t c ≡ Some f → AreTokens ts → Printed l n (column_token names k ∷ ts) f
+    conditional l n k t ts c f found means says tokens = plain l n (column_token names k ∷ ts) f (record { means = on_column found means says; tokens = (tt, tokens) })
+
+    tested : (l : Level) (n k : ℕ) (t : TypeTree) (ts : List TokenTree) (f : Formula) → IsFound columns names k t → PrintedTest k t ts f → AreTokens ts → Printed l n (column_token names k ∷ ts) f
+    tested l n k t ts f found test tokens = conditional l n k t ts test.condition f found (bare_test test.means) test.says tokens
+
+    denied_test : (l : Level) (n k : ℕ) (t : TypeTree) (ts : List TokenTree) (f : Formula) → IsFound columns names k t → PrintedTest k t ts f → AreTokens ts → Printed l n (column_token names k ∷ keyword_token keywords.Not ∷ ts) (negation f)
+    denied_test l n k t ts f found test tokens = conditional l n k t (keyword_token keywords.Not ∷ ts) (denied test.condition) (negation f) found (not_test test.means) (ap (option_map negation) test.says) (tt, tokens)
+
+    negated : (l : Level) (m : ℕ) (ts : List TokenTree) (f : Formula) → Printed levels.Not m ts f → Printed l (suc m) (keyword_token keywords.Not ∷ ts) (negation f)
+    negated l m ts f p = lifted l (suc m) (keyword_token keywords.Not ∷ ts) (negation f) (record { means = not_filter p.means; tokens = (tt, p.tokens) })
+
+    grouping : (m : ℕ) (ts : List TokenTree) (f : Formula) → Printed levels.Or m ts f → Printed levels.Not (suc m) (opening ∷ (ts ++ closing ∷ [])) f
+    grouping m ts f p = record { means = group p.means; tokens = (tt, tokens_append ts (closing ∷ []) p.tokens (tt, tt)) }
+
+    and_made : (m : ℕ) (ts us : List TokenTree) (f g : Formula) → Printed levels.Not (suc m) ts f → Printed levels.And m us g → Printed levels.And (suc m) (ts ++ keyword_token keywords.And ∷ us) (both f g)
+    and_made m ts us f g p q = record { means = and_filter p.means q.means; tokens = tokens_append ts (keyword_token keywords.And ∷ us) p.tokens (tt, q.tokens) }
+
+    or_made : (m : ℕ) (ts us : List TokenTree) (f g : Formula) → Printed levels.And (suc m) ts f → Printed levels.Or m us g → Printed levels.Or (suc m) (ts ++ keyword_token keywords.Or ∷ us) (either f g)
+    or_made m ts us f g p q = record { means = or_filter p.means q.means; tokens = tokens_append ts (keyword_token keywords.Or ∷ us) p.tokens (tt, q.tokens) }
+
+    widened : (n : ℕ) (ts : List TokenTree) (f : Formula) → Printed levels.And n ts f → Printed levels.Or n ts f
+    widened n ts f p = record { means = one_conjunction p.means; tokens = p.tokens }
+
+    moved : (l : Level) (m n : ℕ) (ts : List TokenTree) (f : Formula) → n ≡ m → Printed l m ts f → Printed l n ts f
+    moved l m n ts f same p = subst (λ (k : ℕ). Printed l k ts f) (sym same) p
+
+    abbrev At : Level → ℕ → Formula → Type 0
+    At l n f = Printed l n (tokens_at names l f) f
+
+    -- two printed filters with `and`, and with `or`, between them
+    abbrev conjoined : Formula → Formula → List TokenTree
+    conjoined f g = tokens_at names levels.Not f ++ (keyword_token keywords.And ∷ tokens_at names levels.And g)
+
+    abbrev disjoined : Formula → Formula → List TokenTree
+    disjoined f g = tokens_at names levels.And f ++ (keyword_token keywords.Or ∷ tokens_at names levels.Or g)
+
+    -- what a printed filter needs
+    abbrev Prints : Formula → Type 0
+    Prints f = (l : Level) (n : ℕ) → depth_at l f ≤ n → At l n f
+
+    less : (a b n : ℕ) → max (suc a) b ≤ n → (n ≡ suc (n - 1)) × (a ≤ n - 1) × (b ≤ suc (n - 1))
+    less a b n h =
+        let left : suc a ≤ max (suc a) b = le-max_left (suc a) b in
+        let right : b ≤ max (suc a) b = le-max_right (suc a) b in
+        (omega arith, omega arith, omega arith)
+
+    and_bare : (f g : Formula) → Prints f → Prints g → (n : ℕ) → max (suc (depth_at levels.And g)) (depth_at levels.Not f) ≤ n → Printed levels.And n (conjoined f g) (both f g)
+    and_bare f g p q n h =
+        let parts = less (depth_at levels.And g) (depth_at levels.Not f) n h in
+        moved levels.And (suc (n - 1)) n (conjoined f g) (both f g) parts.0
+        (and_made (n - 1) (tokens_at names levels.Not f) (tokens_at names levels.And g) f g (p levels.Not (suc (n - 1)) parts.2) (q levels.And (n - 1) parts.1))
+
+    or_bare : (f g : Formula) → Prints f → Prints g → (n : ℕ) → max (suc (depth_at levels.Or g)) (depth_at levels.And f) ≤ n → Printed levels.Or n (disjoined f g) (either f g)
+    or_bare f g p q n h =
+        let parts = less (depth_at levels.Or g) (depth_at levels.And f) n h in
+        moved levels.Or (suc (n - 1)) n (disjoined f g) (either f g) parts.0
+        (or_made (n - 1) (tokens_at names levels.And f) (tokens_at names levels.Or g) f g (p levels.And (suc (n - 1)) parts.2) (q levels.Or (n - 1) parts.1))
+
+    in_group : (d n : ℕ) → suc d ≤ n → (n ≡ suc (n - 1)) × (d ≤ n - 1)
+    in_group d n h = (omega arith, omega arith)
+
+    and_printed : (f g : Formula) → Prints f → Prints g → Prints (both f g)
+    and_printed f g p q levels.Or n h = widened n (conjoined f g) (both f g) (and_bare f g p q n h)
+    and_printed f g p q levels.And n h = and_bare f g p q n h
+    and_printed f g p q levels.Not n h =
+        let parts = in_group (max (suc (depth_at levels.And g)) (depth_at levels.Not f)) n h in
+        moved levels.Not (suc (n - 1)) n (opening ∷ (conjoined f g ++ closing ∷ [])) (both f g) parts.0
+        (grouping (n - 1) (conjoined f g) (both f g) (widened (n - 1) (conjoined f g) (both f g) (and_bare f g p q (n - 1) parts.1)))
+
+    or_grouped : (f g : Formula) → Prints f → Prints g → (n : ℕ) → suc (max (suc (depth_at levels.Or g)) (depth_at levels.And f)) ≤ n → Printed levels.Not n (opening ∷ (disjoined f g ++ closing ∷ [])) (either f g)
+    or_grouped f g p q n h =
+        let parts = in_group (max (suc (depth_at levels.Or g)) (depth_at levels.And f)) n h in
+        moved levels.Not (suc (n - 1)) n (opening ∷ (disjoined f g ++ closing ∷ [])) (either f g) parts.0
+        (grouping (n - 1) (disjoined f g) (either f g) (or_bare f g p q (n - 1) parts.1))
+
+    or_printed : (f g : Formula) → Prints f → Prints g → Prints (either f g)
+    or_printed f g p q levels.Or n h = or_bare f g p q n h
+    or_printed f g p q levels.And n h = lifted levels.And n (opening ∷ (disjoined f g ++ closing ∷ [])) (either f g) (or_grouped f g p q n h)
+    or_printed f g p q levels.Not n h = or_grouped f g p q n h
+
+    negation_printed : (f : Formula) → Prints f → (l : Level) (n : ℕ) → suc (depth_at levels.Not f) ≤ n → Printed l n (keyword_token keywords.Not ∷ tokens_at names levels.Not f) (negation f)
+    negation_printed f p l n h =
+        let parts = in_group (depth_at levels.Not f) n h in
+        moved l (suc (n - 1)) n (keyword_token keywords.Not ∷ tokens_at names levels.Not f) (negation f) parts.0
+        (negated l (n - 1) (tokens_at names levels.Not f) f (p levels.Not (n - 1) parts.1))
+
+    constant_printed : (t : _) → Prints (constant t)
+    constant_printed truths.True l n h = plain l n (keyword_token keywords.True ∷ []) (constant truths.True) (record { means = says_true; tokens = (tt, tt) })
+    constant_printed truths.False l n h = plain l n (keyword_token keywords.False ∷ []) (constant truths.False) (record { means = says_false; tokens = (tt, tt) })
+    constant_printed truths.Unknown l n h = plain l n (keyword_token keywords.Null ∷ []) (constant truths.Unknown) (record { means = says_null; tokens = (tt, tt) })
+
+    -- a filter whose columns are found and whose literals are their types' is printed in the grammar
+    printed : (f : Formula) → IsReadable columns names f → Prints f
+    printed (constant t) r l n h = constant_printed t l n h
+    printed (comparison k op x) r l n h =
+        let said = literal_printed r.0 x r.2 in
+        conditional l n k r.0 _ (compared op said.literal) (comparison k op x) r.1 (compares said.says) (ap (option_map (comparison_of k op)) said.stands) (tt, (said.token, tt))
+    printed (null_test k) r l n h = conditional l n k r.0 _ missing (null_test k) r.1 is_null refl (tt, (tt, tt))
+    printed (membership k xs) r l n h = tested l n k r.0 (member_tokens xs) (membership k xs) r.1 (members_printed k r.0 xs r.2) (members_are_tokens r.0 xs r.2)
+    printed (range k x y) r l n h =
+        let low = literal_printed r.0 x r.2 in
+        let high = literal_printed r.0 y r.3 in
+        tested l n k r.0 _ (range k x y) r.1 (range_printed k r.0 x y low high) (tt, (low.token, (tt, (high.token, tt))))
+    printed (prefix_test k x) r l n h = plain l n (prefix_tokens (column_token names k) x.content) (prefix_test k x) (prefix_printed k r.0 x r.1 r.2 r.3)
+    printed (both f g) r l n h = and_printed f g (printed f r.0) (printed g r.1) l n h
+    printed (either f g) r l n h = or_printed f g (printed f r.0) (printed g r.1) l n h
+    printed (negation (null_test k)) r l n h = conditional l n k r.0 _ (denied missing) (negation (null_test k)) r.1 is_not_null refl (tt, (tt, (tt, tt)))
+    printed (negation (membership k xs)) r l n h = denied_test l n k r.0 (member_tokens xs) (membership k xs) r.1 (members_printed k r.0 xs r.2) (members_are_tokens r.0 xs r.2)
+    printed (negation (range k x y)) r l n h =
+        let low = literal_printed r.0 x r.2 in
+        let high = literal_printed r.0 y r.3 in
+        denied_test l n k r.0 _ (range k x y) r.1 (range_printed k r.0 x y low high) (tt, (low.token, (tt, (high.token, tt))))
+    printed (negation (constant t)) r l n h = negation_printed (constant t) (printed (constant t) r) l n h
+    printed (negation (comparison k op x)) r l n h = negation_printed (comparison k op x) (printed (comparison k op x) r) l n h
+    printed (negation (prefix_test k x)) r l n h = negation_printed (prefix_test k x) (printed (prefix_test k x) r) l n h
+    printed (negation (both f g)) r l n h = negation_printed (both f g) (printed (both f g) r) l n h
+    printed (negation (either f g)) r l n h = negation_printed (either f g) (printed (either f g) r) l n h
+    printed (negation (negation f)) r l n h = negation_printed (negation f) (printed (negation f) r) l n h
+
+    pub text_means : (f : Formula) (n : ℕ) → IsReadable columns names f → depth f ≤ n → IsFilter columns levels.Or n (tokens_of names f) f
+    text_means f n r h = (printed f r levels.Or n h).means
+
+    pub text_tokens : (f : Formula) (n : ℕ) → IsReadable columns names f → depth f ≤ n → AreTokens (tokens_of names f)
+    text_tokens f n r h = (printed f r levels.Or n h).tokens

@@ -1,11 +1,11 @@
 -- What is read is spelled as the token says, and ends where it has to.
-use Rattle.std.proofs.Common.{◌≡◌, ◌≢◌, ◌⊎◌, inl, inr, ℕ, zero, suc, ◌+◌, ◌<◌, ◌≤◌, ◌^◌, ◌||◌, ◌&&◌, List, [], ◌∷◌, ◌++◌, Option, Some, None, Bool, true, false, not, cond, Result, Ok, Err, append_assoc, add-one, add-zero, nat_lt, length-append, length, get_or, take, drop, map, refl, sym, ap, ◌∙◌, subst, arith, ◌==◌, ⊎_elim, length-take-le, get_or-drop, take-append-drop, ltb-true}
+use Rattle.std.proofs.Common.{◌≡◌, ◌≢◌, ◌⊎◌, inl, inr, ℕ, zero, suc, ◌+◌, ◌-◌, ◌<◌, ◌≤◌, ◌||◌, ◌&&◌, List, [], ◌∷◌, ◌++◌, Option, Some, None, IfSome, option_and_then, Bool, true, false, not, cond, Result, Ok, Err, append_assoc, add-one, add-zero, nat_lt, length-append, length, get_or, take, drop, map, refl, sym, ap, ◌∙◌, subst, arith, ◌==◌, ⊎_elim, length-take-le, get_or-drop, take-append-drop}
 use Rattle.std.proofs.str.Laws.{order}
 use Rattle.std.specs.Char.{digit_value, is_ascii_digit, to_ascii_lowercase}
 use Rattle.std.specs.List.{prefix_len, position_or_len, list_all, find}
 use Rattle.std.specs.Str.{bytes_eq}
 use Rattle.std.proofs.lemmas.Slice.Eq.{bytes_eq-Decides}
-use Rattle.std.specs.Str.Parse.{AllDigits, IsNumeral, digits_value}
+use Rattle.std.specs.Str.Parse.{AllDigits, IsNumeral}
 use Rattle.std.proofs.lemmas.Bool.Decides.{nat_tests}
 use Rattle.std.proofs.lemmas.List.{drop_more, drop_all}
 use Rattle.std.proofs.lemmas.List.Sums.{prefix_len-le-length, prefix_len_passes, prefix_len_stops}
@@ -14,9 +14,9 @@ use Rattle.hex.specs.declared.error.FromHexError.{FromHexError}
 use Rattle.vortex_filter.specs.declared.operator.CompareOperator.TheVariants as operators
 use Rattle.filter_sql.specs.declared.lex.LexError.{LexError}
 use Rattle.filter_sql.specs.declared.token.Keyword.{Keyword}
-use Rattle.filter_sql.specs.Tokens.{TokenTree, name_token, integer_token, bytes_token, operator_token, opening, closing, comma, doubled, quoted, sign_text, all_keywords, keyword_text, keyword_named, is_word, is_word_byte, is_word_start, is_x, goes_on, IsFront, Spells}
-use Rattle.filter_sql.specs.Lexing.{Cut, bytes_at, bytes_cut, cut_after, integer_at, is_quote, mark_of, other_at, parameter_at, quoted_cut, quoted_token, signed_at, token_at, unquoted_at, with_byte, word_at, word_token}
-use Rattle.filter_sql.proofs.Again.{AllPassing, both_true, hex_text, quoted_text}
+use Rattle.filter_sql.specs.Tokens.{TokenTree, name_token, number_token, bytes_token, operator_token, opening, closing, comma, doubled, quoted, sign_text, Power, Sign, no_sign, plus_sign, minus_sign, IsNumber, IsPower, fraction_text, is_e, is_point, number_goes_on, power_sign, power_text, all_keywords, keyword_text, keyword_named, is_word, is_word_byte, is_word_start, is_x, goes_on, IsFront, Spells}
+use Rattle.filter_sql.specs.Lexing.{Cut, after_digits, after_fraction, after_minus, after_number, after_power, after_sign, bytes_at, bytes_cut, cut_after, is_quote, mark_of, number_at, number_cut, other_at, parameter_at, quoted_cut, quoted_token, token_at, unquoted_at, with_byte, word_at, word_token}
+use Rattle.filter_sql.proofs.Again.{AllPassing, both_true, hex_text, quoted_text, regrouped, take_word}
 
 -- the text begins with the token, which takes at least a byte, and goes on so
 pub record Taken (text : List ℕ) (t : TokenTree) (after : List ℕ) : Type 0 where
@@ -211,50 +211,123 @@ all_digits (c ∷ cs) all =
 
 -- ---- numbers
 
-record IsIntegerAt (negative : Bool) (text : List ℕ) (t : TokenTree) (after : List ℕ) : Type 0 where
+-- digits, and what follows them
+record HasDigits (text rest : List ℕ) : Type 0 where
   pub digits : List ℕ
-  pub whole : text ≡ digits ++ after
+  pub whole : text ≡ digits ++ rest
   pub numeral : IsNumeral 10 digits
-  pub small : digits_value 10 digits < 2 ^ 64
-  pub token : t ≡ integer_token negative (digits_value 10 digits)
-  pub stops : is_ascii_digit (get_or after 0 0) ≡ false
 
-integer_taken : (negative : Bool) (text : List ℕ) (t : TokenTree) (after : List ℕ) → integer_at negative text ≡ Ok (t, after) → IsIntegerAt negative text t after
-unfolding integer_at
-integer_taken negative text t after h =
+digits_taken : (text rest : List ℕ) → after_digits text ≡ Some rest → HasDigits text rest
+unfolding after_digits
+digits_taken text rest h =
     let count = prefix_len is_ascii_digit text in
-    let digits = take count text in
     elim (chosen (count == 0) _ _ _ h) [
       | inl (_, e) ↦ cc
-      | inr (differs, e) ↦ elim (chosen (nat_lt (digits_value 10 digits) (2 ^ 64)) _ _ _ e) [
-        | inl (fits, e1) ↦
-            let cut = run is_ascii_digit text refl in
-            let same : ◌≡◌ {A = Cut} (integer_token negative (digits_value 10 digits), drop count text) (t, after) = cc in
-            let rest : drop count text ≡ after = ap (λ (c : Cut). c.1) same in
-            let some : count ≢ 0 = grind (arith, nat_tests) in
-            record {
-              digits = digits;
-              whole = cut.whole ∙ ap (λ (l : List ℕ). digits ++ l) rest;
-              numeral = (omega (arith, cut.size), all_digits digits cut.passes);
-              small = ltb-true _ _ fits;
-              token = sym (ap (λ (c : Cut). c.0) same);
-              stops = rw (← rest) cut.stops;
-            }
-        | inr (_, e1) ↦ cc
-      ]
+      | inr (differs, e) ↦
+          let cut = run is_ascii_digit text refl in
+          let same : drop count text ≡ rest = cc in
+          let some : count ≢ 0 = grind (arith, nat_tests) in
+          record {
+            digits = take count text;
+            whole = cut.whole ∙ ap (λ (l : List ℕ). take count text ++ l) same;
+            numeral = (omega (arith, cut.size), all_digits (take count text) cut.passes);
+          }
     ]
 
-integer_front : (negative : Bool) (text : List ℕ) (t : TokenTree) (after : List ℕ) → IsIntegerAt negative text t after → Taken (sign_text negative ++ text) t after
-integer_front negative text t after is =
-    rw is.token (record {
-      word = sign_text negative ++ is.digits;
-      front = record {
-        whole = rw is.whole (sym (append_assoc (sign_text negative) is.digits after));
-        spelled = (is.digits, refl, is.numeral, refl, is.small);
-        ends = is.stops;
-      };
-      some = simp length-append (omega (arith, is.numeral.0));
-    })
+fraction_taken : (text rest : List ℕ) → after_fraction text ≡ Some rest → (fraction : Option (List ℕ)) × (text ≡ fraction_text fraction ++ rest) × IfSome fraction (IsNumeral 10)
+unfolding after_fraction
+fraction_taken [] rest h = let same : ◌≡◌ {A = List ℕ} [] rest = cc in (None, same, tt)
+fraction_taken (b ∷ bs) rest h = elim (chosen (is_point b) _ _ _ h) [
+  | inl (is, e) ↦
+      let d = digits_taken bs rest e in
+      let byte : b ≡ 46 = grind (arith, nat_tests) in
+      (Some d.digits, ap (λ (x : ℕ). x ∷ bs) byte ∙ ap (λ (l : List ℕ). 46 ∷ l) d.whole, d.numeral)
+  | inr (_, e) ↦ let same : b ∷ bs ≡ rest = cc in (None, same, tt)
+]
+
+sign_taken : (text : List ℕ) → (s : Sign) × (text ≡ power_sign s ++ after_sign text)
+sign_taken [] = (no_sign, refl)
+sign_taken (c ∷ cs) = by_tests (c == 43) (c == 45) refl refl
+  where
+    by_tests : (a b : Bool) → (c == 43) ≡ a → (c == 45) ≡ b → (s : Sign) × (c ∷ cs ≡ power_sign s ++ after_sign (c ∷ cs))
+    by_tests true b p m = let byte : c ≡ 43 = grind (arith, nat_tests) in (plus_sign, rw p (ap (λ (x : ℕ). x ∷ cs) byte))
+    by_tests false true p m = let byte : c ≡ 45 = grind (arith, nat_tests) in (minus_sign, rw (p, m) (ap (λ (x : ℕ). x ∷ cs) byte))
+    by_tests false false p m = (no_sign, rw (p, m) refl)
+
+power_taken : (text rest : List ℕ) → after_power text ≡ Some rest → (power : Option Power) × (text ≡ power_text power ++ rest) × IfSome power IsPower
+unfolding after_power
+power_taken [] rest h = let same : ◌≡◌ {A = List ℕ} [] rest = cc in (None, same, tt)
+power_taken (b ∷ bs) rest h = elim (chosen (is_e b) _ _ _ h) [
+  | inl (is, e) ↦
+      let d = digits_taken (after_sign bs) rest e in
+      let s = sign_taken bs in
+      let letter : to_ascii_lowercase b ≡ 101 = grind (arith, nat_tests) in (
+        Some (record { letter = b; sign = s.0; digits = d.digits }),
+        ap (λ (l : List ℕ). b ∷ l) (s.1 ∙ ap (λ (l : List ℕ). power_sign s.0 ++ l) d.whole ∙ sym (append_assoc (power_sign s.0) d.digits rest)),
+        (letter, d.numeral),
+      )
+  | inr (_, e) ↦ let same : b ∷ bs ≡ rest = cc in (None, same, tt)
+]
+
+minus_taken : (text : List ℕ) → (negative : Bool) × (text ≡ sign_text negative ++ after_minus text)
+minus_taken [] = (false, refl)
+minus_taken (b ∷ bs) = by_test (b == 45) refl
+  where
+    by_test : (t : Bool) → (b == 45) ≡ t → (negative : Bool) × (b ∷ bs ≡ sign_text negative ++ after_minus (b ∷ bs))
+    by_test true h = let byte : b ≡ 45 = grind (arith, nat_tests) in (true, rw h (ap (λ (x : ℕ). x ∷ bs) byte))
+    by_test false h = (false, rw h refl)
+
+then_taken : (o : Option (List ℕ)) (f : List ℕ → Option (List ℕ)) (rest : List ℕ) → option_and_then f o ≡ Some rest → (l : List ℕ) × (o ≡ Some l) × (f l ≡ Some rest)
+then_taken None f rest h = cc
+then_taken (Some l) f rest h = (l, refl, h)
+
+-- a number, and what follows it
+record HasNumber (text rest : List ℕ) : Type 0 where
+  pub word : List ℕ
+  pub whole : text ≡ word ++ rest
+  pub is : IsNumber word
+  pub some : 0 < length word
+
+unsigned_taken : (text rest : List ℕ) → after_number (after_minus text) ≡ Some rest → HasNumber text rest
+unsigned_taken text rest h =
+    let m = minus_taken text in
+    let a = then_taken (option_and_then after_fraction (after_digits (after_minus text))) after_power rest h in
+    let b = then_taken (after_digits (after_minus text)) after_fraction a.0 a.1 in
+    let d = digits_taken (after_minus text) b.0 b.1 in
+    let f = fraction_taken b.0 a.0 b.2 in
+    let p = power_taken a.0 rest a.2 in
+    let word : List ℕ = sign_text m.0 ++ (d.digits ++ (fraction_text f.0 ++ power_text p.0)) in
+    let parts : text ≡ sign_text m.0 ++ (d.digits ++ (fraction_text f.0 ++ (power_text p.0 ++ rest))) =
+    m.1 ∙ ap (λ (l : List ℕ). sign_text m.0 ++ l) (d.whole ∙ ap (λ (l : List ℕ). d.digits ++ l) (f.1 ∙ ap (λ (l : List ℕ). fraction_text f.0 ++ l) p.1)) in
+    record {
+      word = word;
+      whole = parts ∙ sym (regrouped (sign_text m.0) d.digits (fraction_text f.0) (power_text p.0) rest);
+      is = record { negative = m.0; whole = d.digits; fraction = f.0; power = p.0; text = refl; digits = d.numeral; places = f.2; raised = p.2 };
+      some = simp length-append (omega (arith, d.numeral.0));
+    }
+
+number_cut_taken : (text : List ℕ) (o : Option (List ℕ)) (t : TokenTree) (after : List ℕ) → after_number (after_minus text) ≡ o → number_cut text o ≡ Ok (t, after) → Taken text t after
+number_cut_taken text None t after read h = cc
+number_cut_taken text (Some rest) t after read h = elim (chosen (number_goes_on (get_or rest 0 0)) _ _ _ h) [
+  | inl (_, e) ↦ cc
+  | inr (ends, e) ↦
+      let n = unsigned_taken text rest read in
+      let same : ◌≡◌ {A = Cut} (number_token (take (length text - length rest) text), rest) (t, after) = cc in
+      let size : length text ≡ length n.word + length rest = ap length n.whole ∙ length-append n.word rest in
+      let count : length text - length rest ≡ length n.word = omega (arith, size) in
+      let word : take (length text - length rest) text ≡ n.word = ap (λ (k : ℕ). take k text) count ∙ ap (take (length n.word)) n.whole ∙ take_word n.word rest in
+      let token : number_token n.word ≡ t = ap number_token (sym word) ∙ ap (λ (c : Cut). c.0) same in
+      let left : rest ≡ after = ap (λ (c : Cut). c.1) same in
+      subst (λ (u : TokenTree). Taken text u after) token (record {
+        word = n.word;
+        front = record { whole = n.whole ∙ ap (λ (l : List ℕ). n.word ++ l) left; spelled = (refl, n.is); ends = rw (← left) ends };
+        some = n.some;
+      })
+]
+
+number_taken : (text : List ℕ) (t : TokenTree) (after : List ℕ) → number_at text ≡ Ok (t, after) → Taken text t after
+unfolding number_at
+number_taken text t after h = number_cut_taken text (after_number (after_minus text)) t after refl h
 
 -- ---- names
 
@@ -366,7 +439,6 @@ quoted_taken quote bs (Some found) t after read h other =
     )
 
 other_taken : (b : ℕ) (bs : List ℕ) (t : TokenTree) (after : List ℕ) → other_at b (get_or bs 0 0) (b ∷ bs) ≡ Ok (t, after) → Taken (b ∷ bs) t after
-unfolding signed_at
 other_taken b bs t after h = elim (chosen (b == 34) _ _ _ h) [
   | inl (is, e) ↦
       let byte : b ≡ 34 = grind (arith, nat_tests) in
@@ -378,12 +450,7 @@ other_taken b bs t after h = elim (chosen (b == 34) _ _ _ h) [
         let found = quoted_taken 39 bs (unquoted_at 39 bs) t after refl e refl in
         rw (byte, found.1) (record { word = quoted 39 found.0; front = record { whole = found.2; spelled = refl; ends = found.3 }; some = omega arith })
     | inr (_, h2) ↦ elim (chosen (b == 45 || is_ascii_digit b) _ _ _ h2) [
-      | inl (_, e) ↦ elim (chosen (b == 45) _ _ _ e) [
-        | inl (is, e1) ↦
-            let byte : b ≡ 45 = grind (arith, nat_tests) in
-            subst (λ (x : ℕ). Taken (x ∷ bs) t after) (sym byte) (integer_front true bs t after (integer_taken true bs t after e1))
-        | inr (_, e1) ↦ integer_front false (b ∷ bs) t after (integer_taken false (b ∷ bs) t after e1)
-      ]
+      | inl (_, e) ↦ number_taken (b ∷ bs) t after e
       | inr (_, h3) ↦ elim (chosen (b == 36) _ _ _ h3) [
         | inl (is, e) ↦ parameter_taken (b ∷ bs) t after is e
         | inr (_, h4) ↦ elim (chosen ((to_ascii_lowercase b == 120) && (get_or bs 0 0 == 39)) _ _ _ h4) [

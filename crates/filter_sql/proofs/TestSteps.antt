@@ -12,12 +12,12 @@ use Rattle.filter_sql.specs.declared.parsing.errors.TokenError.{TokenError}
 use Rattle.filter_sql.specs.declared.parsing.errors.TokenError.TheVariants as faults
 use Rattle.filter_sql.specs.declared.token.Placed.{Placed}
 use Rattle.vortex_filter.specs.Formula.{Formula, prefix_test}
-use Rattle.vortex_filter.specs.Literals.{text_cell, text_in}
+use Rattle.vortex_filter.specs.Literals.{text_cell}
 use Rattle.vortex_filter.specs.Positions.{PositionTree, exactly, cells_of, prefix_of}
 use Rattle.filter_sql.specs.Literals.{pattern_prefix, with_byte, is_wildcard}
 use Rattle.filter_sql.specs.Tokens.{TokenTree, token_tree, trees, closing, comma}
 use Rattle.filter_sql.specs.Mistakes.{Fails, Gives, cells_mistake, expected, literal_mistake, more_mistake, text_cause, other_type}
-use Rattle.filter_sql.specs.Reading.{position_then, position_at, token_position, preceded, more_cells, cells_at, with_front, with_bytes, ending, after_comma, after_closing, text_prefix}
+use Rattle.filter_sql.specs.Reading.{position_then, position_at, token_position, preceded, more_cells, cells_at, with_front, with_bytes, ending, after_comma, after_closing, string_in, text_prefix}
 use Rattle.filter_sql.proofs.ReadSteps.{fails_on}
 
 some_is : {A : Type 0} (x y : A) → Some x ≡ Some y → x ≡ y
@@ -182,18 +182,18 @@ module _ (k : ℕ) (t : TypeTree) (bs : List ℕ) where
   pub no_text : (IsUtf8 bs → ⊥) → text_prefix k t bs ≡ None
   no_text other = no_text_by (is_utf8 bs) refl other
 
-  pub text_is : (l : PositionTree) → IsUtf8 bs → text_in t bs ≡ Some l → text_prefix k t bs ≡ prefix_of k l
+  pub text_is : (l : PositionTree) → IsUtf8 bs → string_in t bs ≡ Some l → text_prefix k t bs ≡ prefix_of k l
   unfolding text_prefix
   text_is l utf8 said = rw (is_utf8-from_IsUtf8 bs utf8, said) refl
 
-  text_none : IsUtf8 bs → text_in t bs ≡ None → text_prefix k t bs ≡ None
+  text_none : IsUtf8 bs → string_in t bs ≡ None → text_prefix k t bs ≡ None
   unfolding text_prefix
   text_none utf8 said = rw (is_utf8-from_IsUtf8 bs utf8, said) refl
 
   text_wrong : (left : ℕ) → IsUtf8 bs → faults.At left (text_cause t bs) ≡ faults.At left (other_type t)
   text_wrong left utf8 = rw (is_utf8-from_IsUtf8 bs utf8) refl
 
-  pub text_fails : (e : TokenError) (left : ℕ) → IsUtf8 bs → Fails e (text_in t bs) (faults.At left (other_type t)) → Fails e (text_prefix k t bs) (faults.At left (text_cause t bs))
+  pub text_fails : (e : TokenError) (left : ℕ) → IsUtf8 bs → Fails e (string_in t bs) (faults.At left (other_type t)) → Fails e (text_prefix k t bs) (faults.At left (text_cause t bs))
   text_fails e left utf8 failed = fails_on e _ _ _ _ (λ none. (text_none utf8 none, text_wrong left utf8)) failed
 
   no_string_by : (left : ℕ) (b : Bool) → is_utf8 bs ≡ b → (IsUtf8 bs → ⊥) → faults.At left (text_cause t bs) ≡ faults.At left (causes.Expected expects.Prefix)
@@ -204,7 +204,7 @@ module _ (k : ℕ) (t : TypeTree) (bs : List ℕ) where
   pub no_string : (left : ℕ) → (IsUtf8 bs → ⊥) → (text_prefix k t bs ≡ None) × (faults.At left (text_cause t bs) ≡ faults.At left (causes.Expected expects.Prefix))
   no_string left other = (no_text other, no_string_by left (is_utf8 bs) refl other)
 
-string_is : (t : TypeTree) (bs : List ℕ) (l : PositionTree) → text_in t bs ≡ Some l → l ≡ exactly (text_cell bs)
+string_is : (t : TypeTree) (bs : List ℕ) (l : PositionTree) → string_in t bs ≡ Some l → l ≡ exactly (text_cell bs)
 string_is (utf8_type n) bs l e = let made : PositionTree = exactly (text_cell bs) in sym (some_is made l e)
 string_is _ bs l e = absurd cc
 
@@ -218,7 +218,7 @@ read_told view (Err faults.NoMemory) read y m n is given = tt
 read_told view (Err (faults.At left cause)) read y m n is given = let clash : None ≡ Some y = sym given.0 ∙ is in absurd cc
 
 -- a string is a prefix
-pub string_prefix : {X : Type 0} (view : X → Formula) (r : Result X TokenError) (k : ℕ) (t : TypeTree) (bs : List ℕ) (l : PositionTree) (m n : TokenError) → text_in t bs ≡ Some l → Gives view r (prefix_of k l) m → Gives view r (prefix_of k l) n
+pub string_prefix : {X : Type 0} (view : X → Formula) (r : Result X TokenError) (k : ℕ) (t : TypeTree) (bs : List ℕ) (l : PositionTree) (m n : TokenError) → string_in t bs ≡ Some l → Gives view r (prefix_of k l) m → Gives view r (prefix_of k l) n
 string_prefix view r k t bs l m n said given = read_told view r (prefix_of k l) (prefix_test k (text_cell bs)) m n (same_prefix k bs l (string_is t bs l said)) given
 
 -- ---- patterns

@@ -1,19 +1,18 @@
 -- The token that stands first in a text, and what follows it, as a function of the text.
-use Rattle.std.specs.Prelude.{◌≡◌, ◌^◌, ◌+◌, ◌==◌, ◌||◌, ℕ, nat_lt, Bool, true, false, List, [], ◌∷◌, length, take, drop, slice_index, if◌then◌else◌, Option, Some, None, Result, Ok, Err, ◌&&◌}
+use Rattle.std.specs.Prelude.{◌≡◌, ◌+◌, ◌-◌, ◌==◌, ◌||◌, ℕ, nat_lt, Bool, true, false, List, [], ◌∷◌, length, take, drop, slice_index, if◌then◌else◌, Option, Some, None, Result, Ok, Err, ◌&&◌, option_and_then}
 use Rattle.std.specs.Borrow.{Bor}
 use Rattle.std.specs.Char.{is_ascii_digit, to_ascii_lowercase}
 use Rattle.std.specs.List.{prefix_len, position_or_len, before_first, after_first}
-use Rattle.std.specs.Str.Parse.{digits_value}
 use Rattle.hex.specs.Hex.{decode_of}
 use Rattle.hex.specs.declared.error.FromHexError.{FromHexError}
 use Rattle.vortex_filter.specs.declared.operator.CompareOperator.TheVariants as operators
 use Rattle.filter_sql.specs.declared.error.ParseError.{ParseError}
 use Rattle.filter_sql.specs.declared.error.ParseError.TheVariants as errors
 use Rattle.filter_sql.specs.declared.lex.LexError.{LexError}
-use Rattle.filter_sql.specs.declared.lex.LexError.TheVariants.{OutOfMemory, NumberTooLong, BadText}
+use Rattle.filter_sql.specs.declared.lex.LexError.TheVariants.{OutOfMemory, BadText}
 use Rattle.filter_sql.specs.declared.token.Keyword.{Keyword}
 use Rattle.filter_sql.specs.declared.token.Token.{Token}
-use Rattle.filter_sql.specs.Tokens.{TokenTree, keyword_token, name_token, integer_token, string_token, bytes_token, operator_token, opening, closing, comma, token_tree, keyword_named, is_word_byte, is_word_start}
+use Rattle.filter_sql.specs.Tokens.{TokenTree, keyword_token, name_token, number_token, string_token, bytes_token, operator_token, opening, closing, comma, token_tree, is_e, is_point, keyword_named, number_goes_on, is_word_byte, is_word_start}
 
 -- a token and what follows it
 abbrev pub Cut : Type 0
@@ -88,18 +87,35 @@ bytes_at text =
     if nat_lt (position_or_len is_quote text) (length text) then bytes_cut (decode_of (before_first is_quote text)) (after_first is_quote text)
     else Err BadText
 
--- the number whose digits stand first
-unfoldable pub integer_at : Bool → List ℕ → Result Cut LexError
-integer_at negative text =
-    let count = prefix_len is_ascii_digit text in
-    let magnitude = digits_value 10 (take count text) in
-    if count == 0 then Err BadText
-    else if nat_lt magnitude (2 ^ 64) then Ok (integer_token negative magnitude, drop count text)
-    else Err NumberTooLong
+-- what follows digits, if one stands first
+unfoldable pub after_digits : List ℕ → Option (List ℕ)
+after_digits text = let count = prefix_len is_ascii_digit text in if count == 0 then None else Some (drop count text)
+
+-- what follows a point and digits, if a point stands first
+unfoldable pub after_fraction : List ℕ → Option (List ℕ)
+after_fraction text = if is_point (slice_index text 0) then after_digits (drop 1 text) else Some text
+
+abbrev pub after_sign : List ℕ → List ℕ
+after_sign text = if (slice_index text 0 == 43 || slice_index text 0 == 45) then drop 1 text else text
+
+-- what follows an exponent, if an `e` stands first
+unfoldable pub after_power : List ℕ → Option (List ℕ)
+after_power text = if is_e (slice_index text 0) then after_digits (after_sign (drop 1 text)) else Some text
+
+-- what follows a number without a sign
+abbrev pub after_number : List ℕ → Option (List ℕ)
+after_number text = option_and_then after_power (option_and_then after_fraction (after_digits text))
+
+abbrev pub after_minus : List ℕ → List ℕ
+after_minus text = if slice_index text 0 == 45 then drop 1 text else text
+
+abbrev pub number_cut : List ℕ → Option (List ℕ) → Result Cut LexError
+number_cut text None = Err BadText
+number_cut text (Some rest) = if number_goes_on (slice_index rest 0) then Err BadText else Ok (number_token (take (length text - length rest) text), rest)
 
 -- a number, with a minus sign or none
-unfoldable pub signed_at : List ℕ → Result Cut LexError
-signed_at text = if slice_index text 0 == 45 then integer_at true (drop 1 text) else integer_at false text
+unfoldable pub number_at : List ℕ → Result Cut LexError
+number_at text = number_cut text (after_number (after_minus text))
 
 -- a name of a dollar sign and digits
 unfoldable pub parameter_at : List ℕ → Result Cut LexError
@@ -122,7 +138,7 @@ abbrev pub other_at : ℕ → ℕ → List ℕ → Result Cut LexError
 other_at first second text =
     if first == 34 then quoted_at 34 (drop 1 text)
     else if first == 39 then quoted_at 39 (drop 1 text)
-    else if first == 45 || is_ascii_digit first then signed_at text
+    else if first == 45 || is_ascii_digit first then number_at text
     else if first == 36 then parameter_at text
     else if (to_ascii_lowercase first == 120) && (second == 39) then bytes_at (drop 2 text)
     else if is_word_start first then word_at text
@@ -142,5 +158,4 @@ token_at text =
 -- the fault, at its offset
 abbrev pub fault_at : LexError → ℕ → ParseError
 fault_at OutOfMemory place = errors.OutOfMemory
-fault_at NumberTooLong place = errors.NumberTooLong place
 fault_at BadText place = errors.BadText place

@@ -1,5 +1,5 @@
 -- Which tokens are literals, what is written of a column, and which filter it is by the column's type.
-use Rattle.std.specs.Prelude.{◌==◌, ◌&&◌, ◌||◌, ℕ, ℤ, pos, neg_ℤ, Bool, true, false, List, [], ◌∷◌, Option, Some, None, option_and_then, if◌then◌else◌}
+use Rattle.std.specs.Prelude.{◌==◌, ◌&&◌, ◌||◌, ℕ, Bool, true, false, List, [], ◌∷◌, Option, Some, None, option_and_then, if◌then◌else◌}
 use Rattle.std.specs.Option.{option_map}
 use Rattle.vortex_dtype.specs.TypeTree.{TypeTree}
 use Rattle.vortex_filter.specs.declared.operator.CompareOperator.{CompareOperator}
@@ -9,14 +9,11 @@ use Rattle.vortex_filter.specs.CheckSteps.{holds_strings}
 use Rattle.vortex_filter.specs.Formula.{Formula, null_test, negation}
 use Rattle.vortex_filter.specs.Literals.{LiteralTree, null_literal, truth_literal, number_literal, text_literal, bytes_literal, position_of}
 use Rattle.vortex_filter.specs.Positions.{PositionTree, comparison_of, member_among, prefix_of, range_of}
-use Rattle.filter_sql.specs.Tokens.{TokenTree, keyword_token, integer_token, string_token, bytes_token}
+use Rattle.filter_sql.specs.Tokens.{TokenTree, keyword_token, number_token, string_token, bytes_token}
 
 -- ---- literals
 
--- the number that a sign and digits say
-abbrev pub signed : Bool → ℕ → ℤ
-signed negative n = if negative then neg_ℤ (pos n) else pos n
-
+-- `null`, `true` and `false`
 abbrev pub keyword_literal : Keyword → Option LiteralTree
 keyword_literal keywords.Null = Some null_literal
 keyword_literal keywords.True = Some (truth_literal true)
@@ -26,7 +23,7 @@ keyword_literal _ = None
 -- the literal that a token is
 unfoldable pub literal_of : TokenTree → Option LiteralTree
 literal_of (keyword_token k) = keyword_literal k
-literal_of (integer_token negative m) = Some (number_literal (signed negative m))
+literal_of (number_token word) = Some (number_literal word)
 literal_of (string_token bs) = Some (text_literal bs)
 literal_of (bytes_token bs) = Some (bytes_literal bs)
 literal_of _ = None

@@ -1,7 +1,7 @@
 -- What is wrong with tokens of which nothing is read: the first mistake from the front, and how many tokens are left there.
-use Rattle.std.specs.Prelude.{◌≡◌, ◌==◌, ◌-◌, ℕ, zero, suc, List, [], ◌∷◌, length, Option, Some, None, Result, Ok, Err, if◌then◌else◌, slice_get}
+use Rattle.std.specs.Prelude.{◌≡◌, ◌==◌, ◌-◌, ℕ, zero, suc, Bool, true, false, is_some, List, [], ◌∷◌, length, Option, Some, None, Result, Ok, Err, if◌then◌else◌, slice_get}
 use Rattle.std.specs.Str.{is_utf8}
-use Rattle.vortex_dtype.specs.TypeTree.{TypeTree, bool_type, integer_type, utf8_type, binary_type}
+use Rattle.vortex_dtype.specs.TypeTree.{TypeTree, bool_type, integer_type, utf8_type, binary_type, extension_type}
 use Rattle.filter_sql.specs.declared.error.Expected.{Expected}
 use Rattle.filter_sql.specs.declared.error.Expected.TheVariants as expects
 use Rattle.filter_sql.specs.declared.error.ParseError.{ParseError}
@@ -19,6 +19,9 @@ use Rattle.vortex_filter.specs.declared.filter.Filter.{Filter}
 use Rattle.filter_sql.specs.ColumnNames.{ColumnTree, column_named}
 use Rattle.filter_sql.specs.Lexing.{fault_at}
 use Rattle.vortex_filter.specs.CheckSteps.{holds_strings}
+use Rattle.logical_scalars.specs.TypeShapes.{shape_in}
+use Rattle.logical_types.specs.Shapes.{Shape, float64, float32, decimals}
+use Rattle.vortex_filter.specs.Literals.{LiteralTree, number_literal}
 use Rattle.vortex_filter.specs.Positions.{PositionTree}
 use Rattle.filter_sql.specs.Literals.{literal_of, pattern_prefix}
 use Rattle.filter_sql.specs.Reading.{Read, after_closing, after_comma, after_keyword, after_opening, chosen, conjunction_of, disjunction_of, escape_at, name_at, operand_of, operator_at, position_at, predicate_at, reads, string_at, token_position}
@@ -54,11 +57,34 @@ other_type (bool_type n) = causes.TypesDiffer
 other_type (integer_type k n) = causes.TypesDiffer
 other_type (utf8_type n) = causes.TypesDiffer
 other_type (binary_type n) = causes.TypesDiffer
+other_type (extension_type id metadata u) = if is_some (shape_in (extension_type id metadata u)) then causes.TypesDiffer else causes.NoLiteral
 other_type _ = causes.NoLiteral
+
+-- whether the shape's values are numbers
+abbrev pub is_numeric : Shape → Bool
+is_numeric float64 = true
+is_numeric float32 = true
+is_numeric (decimals precision scale) = true
+is_numeric _ = false
+
+-- whether numbers are written in a column of the type
+abbrev pub holds_numbers : TypeTree → Bool
+holds_numbers (integer_type k n) = true
+holds_numbers (extension_type id metadata u) = chosen (shape_in (extension_type id metadata u)) is_numeric false
+holds_numbers _ = false
+
+-- why a number is none of the type: it is too long, or has an exponent, where numbers are written; or else of another type
+abbrev pub number_cause : TypeTree → Cause
+number_cause t = if holds_numbers t then causes.NumberTooLong else other_type t
+
+-- why a literal is none of the type
+abbrev pub refusal : TypeTree → LiteralTree → Cause
+refusal t (number_literal word) = number_cause t
+refusal t _ = other_type t
 
 -- why a token is no literal of the type: it is one of other types, or none
 abbrev pub literal_cause : TypeTree → TokenTree → Cause
-literal_cause t x = chosen (literal_of x) (λ l. other_type t) (causes.Expected expects.Literal)
+literal_cause t x = chosen (literal_of x) (refusal t) (causes.Expected expects.Literal)
 
 unfoldable pub literal_mistake : TypeTree → List TokenTree → TokenError
 literal_mistake t [] = expected [] expects.Literal
@@ -201,6 +227,7 @@ caused place (causes.Expected what) = errors.Expected place what
 caused place causes.NoColumn = errors.NoColumn place
 caused place causes.TypesDiffer = errors.TypesDiffer place
 caused place causes.NoLiteral = errors.NoLiteral place
+caused place causes.NumberTooLong = errors.NumberTooLong place
 caused place causes.TooDeep = errors.TooDeep place
 
 -- the offset of the token where so many are left, or the end

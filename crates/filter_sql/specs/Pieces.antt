@@ -9,7 +9,7 @@ use Rattle.filter_sql.specs.declared.print.Level.{Level}
 use Rattle.filter_sql.specs.declared.print.Level.TheVariants as levels
 use Rattle.vortex_filter.specs.Formula.{Formula, constant, comparison, null_test, membership, range, prefix_test, both, either, negation}
 use Rattle.filter_sql.specs.Tokens.{keyword_text, operator_text, quoted, spelling}
-use Rattle.filter_sql.specs.Printing.{column_token, constant_keyword, content_token, groups_and, groups_or, is_special, prefix_pattern}
+use Rattle.filter_sql.specs.Printing.{column_token, constant_keyword, content_token, groups_and, groups_or, is_special, prefix_pattern, printed_content}
 
 -- a character, twice if it is the quote
 abbrev pub quotable : ℕ → ℕ → List ℕ
@@ -26,7 +26,7 @@ abbrev pub content_text : Content → List ℕ
 content_text c = spelling (content_token c)
 
 abbrev pub literal_text : Cell → List ℕ
-literal_text x = content_text x.content
+literal_text x = content_text (printed_content x)
 
 -- literals with a comma and a space between them
 abbrev pub literals_text : List Cell → List ℕ

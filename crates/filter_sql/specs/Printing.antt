@@ -1,11 +1,12 @@
 -- The tokens of a filter's text. `or` binds loosest, then `and`, then `not`; `and` and `or` group to the right.
-use Rattle.std.specs.Prelude.{◌==◌, ◌||◌, ◌+◌, ℕ, ℤ, pos, negsuc, suc, Bool, true, false, List, [], ◌∷◌, ◌++◌, map, slice_get, codes, if◌then◌else◌}
+use Rattle.std.specs.Prelude.{◌==◌, ◌&&◌, ◌||◌, not, ◌+◌, ℕ, ℤ, pos, negsuc, suc, Bool, true, false, List, [], ◌∷◌, ◌++◌, map, slice_get, codes, if◌then◌else◌}
 use Rattle.std.specs.Fmt.{decimal}
 use Rattle.std.specs.List.{flat_map, list_any}
 use Rattle.std.specs.Option.{unwrap_or}
 use Rattle.std.specs.String.{string_bytes}
-use Rattle.vortex_cells.specs.Cells.{Cell}
-use Rattle.vortex_value.specs.Values.Content.{Content, null, truth, whole, text, string}
+use Rattle.vortex_dtype.specs.TypeTree.{TypeTree, extension_type}
+use Rattle.vortex_cells.specs.Cells.{Cell, is_null_cell}
+use Rattle.vortex_value.specs.Values.Content.{Content, null, truth, whole, text, string, sequence, no_contents}
 use Rattle.filter_sql.specs.declared.column.Column.{Column}
 use Rattle.vortex_filter.specs.declared.operator.CompareOperator.{CompareOperator}
 use Rattle.filter_sql.specs.declared.print.Level.{Level}
@@ -15,7 +16,7 @@ use Rattle.filter_sql.specs.declared.token.Keyword.TheVariants as keywords
 use Rattle.vortex_filter.specs.declared.truth.Truth.{Truth}
 use Rattle.vortex_filter.specs.declared.truth.Truth.TheVariants as truths
 use Rattle.vortex_filter.specs.Formula.{Formula, constant, comparison, null_test, membership, range, prefix_test, both, either, negation}
-use Rattle.filter_sql.specs.Tokens.{TokenTree, keyword_token, name_token, integer_token, string_token, bytes_token, operator_token, opening, closing, comma, verbatim, canonical}
+use Rattle.filter_sql.specs.Tokens.{TokenTree, keyword_token, name_token, number_token, string_token, bytes_token, operator_token, opening, closing, comma, verbatim, canonical}
 
 -- ---- columns and literals
 
@@ -30,21 +31,30 @@ abbrev pub truth_keyword : Bool → Keyword
 truth_keyword true = keywords.True
 truth_keyword false = keywords.False
 
-abbrev pub number_token : ℤ → TokenTree
-number_token (pos n) = integer_token false n
-number_token (negsuc n) = integer_token true (suc n)
+-- an integer, by its digits
+abbrev pub integer_text : ℤ → List ℕ
+integer_text (pos n) = decimal n
+integer_text (negsuc n) = 45 ∷ decimal (suc n)
 
 -- a content as SQL writes it, and a question mark where SQL has no literal
 abbrev pub content_token : Content → TokenTree
 content_token null = keyword_token keywords.Null
 content_token (truth b) = keyword_token (truth_keyword b)
-content_token (whole z) = number_token z
+content_token (whole z) = number_token (integer_text z)
 content_token (text bs) = string_token bs
 content_token (string bs) = bytes_token bs
 content_token _ = verbatim (codes "?")
 
+abbrev pub is_extended : TypeTree → Bool
+is_extended (extension_type id metadata t) = true
+is_extended _ = false
+
+-- what is printed of a cell: its content, unless this stores the value of an extension, which would be read as another
+abbrev pub printed_content : Cell → Content
+printed_content x = if not (is_null_cell x) && is_extended x.typed then sequence no_contents else x.content
+
 abbrev pub literal_token : Cell → TokenTree
-literal_token x = content_token x.content
+literal_token x = content_token (printed_content x)
 
 -- literals with commas between them
 abbrev pub literal_tokens : List Cell → List TokenTree

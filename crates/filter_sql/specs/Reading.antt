@@ -1,7 +1,7 @@
 -- Reading tokens from the front, as the private functions of the parser do: what is read, and what follows it.
 use Rattle.std.specs.Prelude.{◌==◌, ◌++◌, ℕ, zero, suc, Bool, true, false, List, [], ◌∷◌, Option, Some, None, option_and_then, if◌then◌else◌}
 use Rattle.std.specs.Str.{bytes_eq, is_utf8}
-use Rattle.vortex_dtype.specs.TypeTree.{TypeTree}
+use Rattle.vortex_dtype.specs.TypeTree.{TypeTree, utf8_type}
 use Rattle.vortex_cells.specs.Cells.{Cell}
 use Rattle.vortex_filter.specs.declared.operator.CompareOperator.{CompareOperator}
 use Rattle.filter_sql.specs.declared.print.Level.{Level}
@@ -157,9 +157,14 @@ with_bytes front (Some bs) = Some (front ++ bs)
 abbrev pub ending : List ℕ → Option (List ℕ)
 ending bs = if bytes_eq bs (37 ∷ []) then Some [] else None
 
+-- a string in a column of strings
+abbrev pub string_in : TypeTree → List ℕ → Option PositionTree
+string_in (utf8_type n) bs = text_in (utf8_type n) bs
+string_in _ bs = None
+
 -- bytes that are a prefix in a column of strings
 unfoldable pub text_prefix : ℕ → TypeTree → List ℕ → Option Formula
-text_prefix k t bs = if is_utf8 bs then (text_in t bs >>= prefix_of k) else None
+text_prefix k t bs = if is_utf8 bs then (string_in t bs >>= prefix_of k) else None
 
 unfoldable pub like_at : ℕ → TypeTree → List TokenTree → Read
 like_at k t ts = do

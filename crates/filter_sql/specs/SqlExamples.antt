@@ -8,7 +8,7 @@ use Rattle.vortex_dtype.specs.declared.ptype.PType.TheVariants.{I32, U8}
 use Rattle.vortex_cells.specs.Cells.{Cell}
 use Rattle.vortex_value.specs.Values.Content.{Content, null, whole, text, string}
 use Rattle.vortex_filter.specs.declared.operator.CompareOperator.TheVariants.{NotEq, Gte, Lt, Eq}
-use Rattle.filter_sql.specs.declared.lex.LexError.TheVariants.{BadText, NumberTooLong}
+use Rattle.filter_sql.specs.declared.lex.LexError.TheVariants.{BadText}
 use Rattle.filter_sql.specs.declared.error.Expected.TheVariants as expects
 use Rattle.filter_sql.specs.declared.parsing.errors.Cause.TheVariants as causes
 use Rattle.filter_sql.specs.declared.parsing.errors.TokenError.TheVariants as faults
@@ -16,8 +16,8 @@ use Rattle.filter_sql.specs.declared.token.Keyword.TheVariants.{And, In, Not, Or
 use Rattle.filter_sql.specs.declared.token.Keyword.TheVariants as keywords
 use Rattle.vortex_filter.specs.declared.truth.Truth.TheVariants.{True, Unknown}
 use Rattle.vortex_filter.specs.Formula.{Formula, constant, comparison, null_test, membership, range, prefix_test, both, either, negation}
-use Rattle.filter_sql.specs.Lexing.{bytes_at, integer_at, mark_of, parameter_at, signed_at, token_at, unquoted_at, word_at}
-use Rattle.filter_sql.specs.Tokens.{bytes_token, closing, integer_token, keyword_named, keyword_token, name_token, opening, operator_token, string_token}
+use Rattle.filter_sql.specs.Lexing.{after_digits, after_fraction, after_power, bytes_at, mark_of, number_at, parameter_at, token_at, unquoted_at, word_at}
+use Rattle.filter_sql.specs.Tokens.{bytes_token, closing, number_token, keyword_named, keyword_token, name_token, opening, operator_token, string_token}
 use Rattle.filter_sql.specs.Printing.{sql_text}
 use Rattle.filter_sql.specs.ColumnNames.{ColumnTree, column_named, numbered_place}
 use Rattle.vortex_filter.specs.Literals.{number_cell, number_literal, text_literal}
@@ -27,7 +27,7 @@ use Rattle.filter_sql.specs.Reading.{after_closing, after_comma, after_keyword, 
 
 -- what the proofs compute by
 unfoldable on_texts : ⊤
-unfolding bytes_at decode_pairs digits encode_with integer_at keyword_named mark_of parameter_at signed_at token_at unquoted_at word_at
+unfolding after_digits after_fraction after_power bytes_at decode_pairs digits encode_with keyword_named mark_of number_at parameter_at token_at unquoted_at word_at
 on_texts = tt
 
 -- Tokens, and what follows each.
@@ -55,12 +55,18 @@ pub strings_of_bytes :
 unfolding on_texts
 strings_of_bytes = (refl, refl, refl, refl)
 
--- below 2 ^ 64
+-- of any length, with a point and an exponent
 pub numbers :
-    (token_at (codes "-12)") ≡ Ok (integer_token true 12, codes ")")) × (token_at (codes "- 12") ≡ Err BadText)
-    × (token_at (codes "18446744073709551615") ≡ Ok (integer_token false 0xffff_ffff_ffff_ffff, [])) × (token_at (codes "18446744073709551616") ≡ Err NumberTooLong)
+    (token_at (codes "-12)") ≡ Ok (number_token (codes "-12"), codes ")")) × (token_at (codes "- 12") ≡ Err BadText)
+    × (token_at (codes "18446744073709551616") ≡ Ok (number_token (codes "18446744073709551616"), []))
+    × (token_at (codes "10.50 and") ≡ Ok (number_token (codes "10.50"), codes " and")) × (token_at (codes "-1.5e-3)") ≡ Ok (number_token (codes "-1.5e-3"), codes ")"))
 unfolding on_texts
-numbers = (refl, refl, refl, refl)
+numbers = (refl, refl, refl, refl, refl)
+
+-- a digit stands before a point, and behind it and an e
+pub no_numbers : (token_at (codes ".5") ≡ Err BadText) × (token_at (codes "1.") ≡ Err BadText) × (token_at (codes "1e") ≡ Err BadText) × (token_at (codes "1e+") ≡ Err BadText)
+unfolding on_texts
+no_numbers = (refl, refl, refl, refl)
 
 -- Formulas.
 
@@ -119,20 +125,20 @@ unfolding after_closing after_comma after_keyword after_opening and_from cells_a
 on_mistakes = tt
 
 -- a 3
-pub no_operator : filter_mistake one_column 9 (name_token (codes "a") ∷ integer_token false 3 ∷ []) ≡ faults.At 1 (causes.Expected expects.Operator)
+pub no_operator : filter_mistake one_column 9 (name_token (codes "a") ∷ number_token (codes "3") ∷ []) ≡ faults.At 1 (causes.Expected expects.Operator)
 unfolding on_mistakes
 no_operator = refl
 
 -- a in (1 2), and: true or b = 1
 pub mistakes_behind :
-    (filter_mistake one_column 9 (name_token (codes "a") ∷ keyword_token In ∷ opening ∷ integer_token false 1 ∷ integer_token false 2 ∷ closing ∷ []) ≡ faults.At 2 (causes.Expected expects.Closing))
-    × (filter_mistake one_column 9 (keyword_token keywords.True ∷ keyword_token Or ∷ name_token (codes "b") ∷ operator_token Eq ∷ integer_token false 1 ∷ []) ≡ faults.At 3 causes.NoColumn)
+    (filter_mistake one_column 9 (name_token (codes "a") ∷ keyword_token In ∷ opening ∷ number_token (codes "1") ∷ number_token (codes "2") ∷ closing ∷ []) ≡ faults.At 2 (causes.Expected expects.Closing))
+    × (filter_mistake one_column 9 (keyword_token keywords.True ∷ keyword_token Or ∷ name_token (codes "b") ∷ operator_token Eq ∷ number_token (codes "1") ∷ []) ≡ faults.At 3 causes.NoColumn)
 unfolding on_mistakes
 mistakes_behind = (refl, refl)
 
 -- (a = 1, and: a = 'x'
 pub mistakes_at_last :
-    (filter_mistake one_column 9 (opening ∷ name_token (codes "a") ∷ operator_token Eq ∷ integer_token false 1 ∷ []) ≡ faults.At 0 (causes.Expected expects.Closing))
+    (filter_mistake one_column 9 (opening ∷ name_token (codes "a") ∷ operator_token Eq ∷ number_token (codes "1") ∷ []) ≡ faults.At 0 (causes.Expected expects.Closing))
     × (filter_mistake one_column 9 (name_token (codes "a") ∷ operator_token Eq ∷ string_token (codes "x") ∷ []) ≡ faults.At 1 causes.TypesDiffer)
 unfolding on_mistakes
 mistakes_at_last = (refl, refl)

@@ -1,10 +1,9 @@
 -- The tokens of SQL text, and how they are spelled.
-use Rattle.std.specs.Prelude.{◌≡◌, ◌<◌, ◌^◌, ◌==◌, ◌||◌, ◌&&◌, ◌⊎◌, ℕ, Bool, true, false, List, [], ◌∷◌, ◌++◌, map, slice_index, codes, if◌then◌else◌, Option, None, find, Ok}
+use Rattle.std.specs.Prelude.{◌≡◌, ◌<◌, ◌==◌, ◌||◌, ◌&&◌, ◌⊎◌, ℕ, Bool, true, false, List, [], ◌∷◌, ◌++◌, map, slice_index, codes, if◌then◌else◌, Option, None, Some, IfSome, find, Ok}
 use Rattle.std.specs.Char.{is_ascii_alphabetic, is_ascii_digit, to_ascii_lowercase}
-use Rattle.std.specs.Fmt.{decimal}
 use Rattle.std.specs.List.{AllByRecursion, flat_map, list_all}
 use Rattle.std.specs.Str.{bytes_eq}
-use Rattle.std.specs.Str.Parse.{IsNumeral, digits_value}
+use Rattle.std.specs.Str.Parse.{IsNumeral}
 use Rattle.std.specs.String.{string_bytes}
 use Rattle.hex.specs.Hex.{decode_of, encode_lower}
 use Rattle.vortex_filter.specs.declared.operator.CompareOperator.{CompareOperator}
@@ -21,8 +20,8 @@ pub data TokenTree : Type 0 where
   keyword_token : Keyword → TokenTree
   -- a name: a bare word, or anything in double quotes
   name_token : List ℕ → TokenTree
-  -- a whole number: whether a minus sign stands before it, and the value of its digits
-  integer_token : Bool → ℕ → TokenTree
+  -- a number, by its word
+  number_token : List ℕ → TokenTree
   -- a string, in single quotes
   string_token : List ℕ → TokenTree
   -- bytes, as in x'00ff'
@@ -39,7 +38,7 @@ pub data TokenTree : Type 0 where
 abbrev pub token_tree : Token → TokenTree
 token_tree (tokens.Keyword k) = keyword_token k
 token_tree (tokens.Name s) = name_token (string_bytes s)
-token_tree (tokens.Integer negative magnitude) = integer_token negative magnitude
+token_tree (tokens.Number s) = number_token (string_bytes s)
 token_tree (tokens.Text s) = string_token (string_bytes s)
 token_tree (tokens.Bytes v) = bytes_token v.items
 token_tree (tokens.Operator o) = operator_token o
@@ -90,7 +89,7 @@ sign_text negative = if negative then codes "-" else []
 abbrev pub spelling : TokenTree → List ℕ
 spelling (keyword_token k) = keyword_text k
 spelling (name_token content) = quoted 34 content
-spelling (integer_token negative magnitude) = sign_text negative ++ decimal magnitude
+spelling (number_token word) = word
 spelling (string_token content) = quoted 39 content
 spelling (bytes_token content) = codes "x'" ++ (encode_lower content ++ codes "'")
 spelling (operator_token o) = operator_text o
@@ -129,9 +128,49 @@ canonical (t ∷ u ∷ ts) = spelling t ++ (gap t u ++ canonical (u ∷ ts))
 
 -- ---- what can be read
 
+-- a point and digits, or nothing
+abbrev pub fraction_text : Option (List ℕ) → List ℕ
+fraction_text None = []
+fraction_text (Some digits) = 46 ∷ digits
+
+-- `+`, `-` or nothing
+pub data Sign : Type 0 where
+  no_sign : Sign
+  plus_sign : Sign
+  minus_sign : Sign
+
+abbrev pub power_sign : Sign → List ℕ
+power_sign no_sign = []
+power_sign plus_sign = codes "+"
+power_sign minus_sign = codes "-"
+
+-- `e` in either case, a sign and digits
+pub record Power : Type 0 where
+  pub letter : ℕ
+  pub sign : Sign
+  pub digits : List ℕ
+
+abbrev pub power_text : Option Power → List ℕ
+power_text None = []
+power_text (Some p) = p.letter ∷ (power_sign p.sign ++ p.digits)
+
+abbrev pub IsPower : Power → Type 0
+IsPower p = (to_ascii_lowercase p.letter ≡ 101) × IsNumeral 10 p.digits
+
+-- the word is a number: perhaps a minus sign, digits, perhaps a point and digits, perhaps an exponent
+pub record IsNumber (word : List ℕ) : Type 0 where
+  pub negative : Bool
+  pub whole : List ℕ
+  pub fraction : Option (List ℕ)
+  pub power : Option Power
+  pub text : word ≡ sign_text negative ++ (whole ++ (fraction_text fraction ++ power_text power))
+  pub digits : IsNumeral 10 whole
+  pub places : IfSome fraction (IsNumeral 10)
+  pub raised : IfSome power IsPower
+
 -- a token that has a spelling which is read
 abbrev pub IsToken : TokenTree → Type 0
-IsToken (integer_token negative magnitude) = magnitude < 2 ^ 64
+IsToken (number_token word) = IsNumber word
 IsToken (bytes_token content) = AllByRecursion (λ b. b < 256) content
 IsToken (verbatim text) = ⊥
 IsToken _ = Unit {0}
@@ -173,7 +212,7 @@ IsBareName word = ((is_word word ≡ true) × (keyword_named word ≡ None)) ⊎
 abbrev pub Spells : TokenTree → List ℕ → Type 0
 Spells (keyword_token k) word = map to_ascii_lowercase word ≡ keyword_text k
 Spells (name_token content) word = (IsBareName content × (word ≡ content)) ⊎ (word ≡ quoted 34 content)
-Spells (integer_token negative magnitude) word = (digits : List ℕ) × (word ≡ sign_text negative ++ digits) × IsNumeral 10 digits × (digits_value 10 digits ≡ magnitude) × (magnitude < 2 ^ 64)
+Spells (number_token number) word = (word ≡ number) × IsNumber number
 Spells (string_token content) word = word ≡ quoted 39 content
 Spells (bytes_token content) word = (x : ℕ) × (digits : List ℕ) × (to_ascii_lowercase x ≡ 120) × (word ≡ x ∷ 39 ∷ (digits ++ 39 ∷ [])) × (decode_of digits ≡ Ok content)
 Spells (operator_token operators.NotEq) word = (word ≡ codes "<>") ⊎ (word ≡ codes "!=")
@@ -195,11 +234,22 @@ name_goes_on word next =
     else if slice_index word 0 == 36 then is_ascii_digit next
     else is_word_byte next || (is_x word && next == 39)
 
+-- a point, and an `e` in either case
+abbrev pub is_point : ℕ → Bool
+is_point b = b == 46
+
+abbrev pub is_e : ℕ → Bool
+is_e b = to_ascii_lowercase b == 101
+
+-- whether a byte cannot stand behind a number
+abbrev pub number_goes_on : ℕ → Bool
+number_goes_on next = is_ascii_digit next || (is_point next || is_e next)
+
 -- whether a byte behind the token belongs to it: then it ends further on
 abbrev pub goes_on : TokenTree → List ℕ → ℕ → Bool
 goes_on (keyword_token k) word next = is_word_byte next
 goes_on (name_token content) word next = name_goes_on word next
-goes_on (integer_token negative magnitude) word next = is_ascii_digit next
+goes_on (number_token number) word next = number_goes_on next
 goes_on (string_token content) word next = next == 39
 goes_on (operator_token operators.Lt) word next = next == 61 || next == 62
 goes_on (operator_token operators.Gt) word next = next == 61

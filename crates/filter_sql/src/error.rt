@@ -66,8 +66,9 @@ pub enum ParseError {
     /// No literal but `null` can be written for values of the column's type.
     #[error("byte {offset}: no literal is of the column's type")]
     NoLiteral { offset: usize },
-    /// The digits are a number of 2^64 or more.
-    #[error("byte {offset}: the number is too long")]
+    /// The column's type takes no such number: it has more than 38 digits, an exponent that only
+    /// floats take, or is a float that no finite one is near.
+    #[error("byte {offset}: a number as no value of the column's type is written")]
     NumberTooLong { offset: usize },
     /// No token begins so, or what begins here does not end.
     #[error("byte {offset}: no token")]

@@ -2,15 +2,16 @@
 #![tactic(auto, using(crate::proofs::Cuts::cuts))]
 
 ghost use Rattle.std.specs.Prelude.{◌≡◌, ◌≢◌, ◌+◌, ◌-◌, true, Ok, ◌<◌, ◌≤◌, drop, get_or, length, take, List, IfErr};
-ghost use Rattle.std.specs.Prelude.{IfOk, IfSome, IfNone, None, option_map};
+ghost use Rattle.std.specs.Prelude.{IfOk, IfSome, IfNone, None, option_map, slice_index};
 ghost use Rattle.std.specs.List.{AllByRecursion, prefix_len};
 ghost use Rattle.std.specs.Char.{is_ascii_digit};
 ghost use Rattle.std.specs.Str.{IsUtf8};
 ghost use Rattle.filter_sql.specs.Words.{AreTokens, EndsAt, TokenTree, canonical, fault_at, items, stopped, trees};
-ghost use Rattle.filter_sql.specs.Words.{Gives, name_token, quoted_token, string_bytes, bytes_at, integer_at};
+ghost use Rattle.filter_sql.specs.Words.{Gives, name_token, quoted_token, string_bytes, bytes_at, number_at};
 ghost use Rattle.filter_sql.specs.Words.{is_word_byte, is_word_start, keyword_named, keyword_text, mark_of};
-ghost use Rattle.filter_sql.specs.Words.{parameter_at, quoted_at, signed_at, token_at, token_tree, unquoted_at, view};
-ghost use Rattle.filter_sql.specs.Words.{word_at};
+ghost use Rattle.filter_sql.specs.Words.{parameter_at, quoted_at, token_at, token_tree, unquoted_at, view};
+ghost use Rattle.filter_sql.specs.Words.{after_digits, after_fraction, after_minus, after_number, after_power};
+ghost use Rattle.filter_sql.specs.Words.{after_sign, number_goes_on, word_at};
 
 use crate::error::ParseError;
 use crate::token::{Keyword, Placed, Token};
@@ -22,7 +23,6 @@ use vortex_filter::CompareOperator;
 #[derive(Clone, Copy, Debug, PartialEq, Eq)]
 pub(crate) enum LexError {
     OutOfMemory,
-    NumberTooLong,
     BadText,
 }
 
@@ -184,36 +184,91 @@ fn digits_len(text: &[u8]) -> usize
     text.iter().take_while(|byte| byte.is_ascii_digit()).count()
 }
 
-/// The number whose digits stand first.
-#[tactic(auto, using(crate::proofs::Cuts::cuts), unfolding(crate::specs::Lexing::integer_at))]
-fn magnitude(text: &str, is_negative: bool) -> Result<(Token, &str), LexError>
-    ensures { Gives view result (integer_at is_negative text.now) }
+/// What follows digits, if one stands first.
+#[tactic(auto, using(crate::proofs::Cuts::cuts), unfolding(crate::specs::Lexing::after_digits))]
+fn after_digits(text: &str) -> Option<&str>
+    ensures { option_map (λ rest. rest.now) result ≡ after_digits text.now }
 {
     let count = digits_len(text.as_bytes());
     if count == 0 {
-        return Err(LexError::BadText);
+        return None;
     }
-    let after = past(text, count);
-    match text[..count].parse::<u64>() {
-        Ok(magnitude) => Ok((
-            Token::Integer {
-                is_negative,
-                magnitude,
-            },
-            after,
-        )),
-        Err(_) => Err(LexError::NumberTooLong),
+    Some(past(text, count))
+}
+
+/// What follows a point and digits, if a point stands first.
+#[tactic(auto, using(crate::proofs::Cuts::cuts), unfolding(crate::specs::Lexing::after_fraction))]
+fn after_fraction(text: &str) -> Option<&str>
+    ensures { option_map (λ rest. rest.now) result ≡ after_fraction text.now }
+{
+    match text.as_bytes() {
+        [b'.', ..] => after_digits(past(text, 1)),
+        _ => Some(text),
+    }
+}
+
+/// What follows an exponent, if an `e` stands first.
+#[tactic(auto, using(crate::proofs::Cuts::cuts), unfolding(crate::specs::Lexing::after_power))]
+fn after_power(text: &str) -> Option<&str>
+    ensures { option_map (λ rest. rest.now) result ≡ after_power text.now }
+{
+    match text.as_bytes() {
+        [b'e' | b'E', ..] => after_digits(after_sign(past(text, 1))),
+        _ => Some(text),
+    }
+}
+
+/// What follows a sign, if one stands first.
+fn after_sign(text: &str) -> &str
+    ensures { result.now ≡ after_sign text.now }
+{
+    match text.as_bytes() {
+        [b'+' | b'-', ..] => past(text, 1),
+        _ => text,
+    }
+}
+
+/// What follows a number without a sign.
+fn after_number(text: &str) -> Option<&str>
+    ensures { option_map (λ rest. rest.now) result ≡ after_number text.now }
+{
+    after_power(after_fraction(after_digits(text)?)?)
+}
+
+/// What follows a minus sign, if one stands first.
+fn after_minus(text: &str) -> &str
+    ensures { result.now ≡ after_minus text.now }
+{
+    match text.as_bytes() {
+        [b'-', ..] => past(text, 1),
+        _ => text,
+    }
+}
+
+/// Whether a text begins with what cannot stand behind a number.
+fn goes_on(text: &str) -> bool
+    ensures { result ≡ number_goes_on (slice_index text.now 0) }
+{
+    match text.as_bytes() {
+        [byte, ..] => byte.is_ascii_digit() || matches!(*byte, b'.' | b'e' | b'E'),
+        [] => false,
     }
 }
 
 /// A number, with a minus sign or none.
-#[tactic(auto, using(crate::proofs::Cuts::cuts), unfolding(crate::specs::Lexing::signed_at))]
-fn integer(text: &str) -> Result<(Token, &str), LexError>
-    ensures { Gives view result (signed_at text.now) }
+#[tactic(auto, using(crate::proofs::Cuts::cuts), unfolding(crate::specs::Lexing::number_at))]
+fn number(alloc: Global, text: &str) -> Result<(Token, &str), LexError>
+    ensures { Gives view result (number_at text.now) }
 {
-    match text.strip_prefix('-') {
-        Some(digits) => magnitude(digits, true),
-        None => magnitude(text, false),
+    let Some(after) = after_number(after_minus(text)) else {
+        return Err(LexError::BadText);
+    };
+    if goes_on(after) {
+        return Err(LexError::BadText);
+    }
+    match String::from_str(alloc, &text[..text.len() - after.len()]) {
+        Ok(word) => Ok((Token::Number(word), after)),
+        Err(_) => Err(LexError::OutOfMemory),
     }
 }
 
@@ -282,7 +337,7 @@ fn first_token(alloc: Global, text: &str) -> Result<(Token, &str), LexError>
     match first {
         b'"' => quoted(alloc, past(text, 1), '"'),
         b'\'' => quoted(alloc, past(text, 1), '\''),
-        b'-' | b'0'..=b'9' => integer(text),
+        b'-' | b'0'..=b'9' => number(alloc, text),
         b'$' => parameter(alloc, text),
         b'x' | b'X' if second == b'\'' => hexadecimal(alloc, past(text, 2)),
         _ if is_word_start(first) => word(alloc, text),
@@ -296,7 +351,6 @@ pub(crate) fn at(fault: LexError, place: usize) -> ParseError
 {
     match fault {
         LexError::OutOfMemory => ParseError::OutOfMemory,
-        LexError::NumberTooLong => ParseError::NumberTooLong { offset: place },
         LexError::BadText => ParseError::BadText { offset: place },
     }
 }
@@ -325,7 +379,7 @@ fn stopped(tokens: Vec<Placed>, place: usize, fault: LexError) -> Result<Lexed, 
             drop(tokens);
             Err(ParseError::OutOfMemory)
         }
-        LexError::NumberTooLong | LexError::BadText => Ok(Lexed {
+        LexError::BadText => Ok(Lexed {
             tokens,
             ending: Ending {
                 place,

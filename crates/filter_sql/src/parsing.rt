@@ -30,6 +30,7 @@ use crate::lex::{Ending, LexError as Unread, at, lex};
 use crate::token::Placed;
 use errors::{Cause, TokenError};
 use filters::filter_of;
+use logical_types::laws::integers_lie_at_themselves;
 use std::alloc::Global;
 use vortex_filter::Filter;
 
@@ -39,8 +40,10 @@ pub const MAX_DEPTH: usize = 256;
 /// The filter that SQL text is, over columns by name and type.
 ///
 /// A name is one of the first column with exactly that name; if there is none, `$1` is the
-/// first column, and so on. A literal takes the column's type. A number that the type lacks
-/// makes a comparison what it is for each value: True or False, and Unknown for a null.
+/// first column, and so on. A literal takes the column's type: in a column of numbers a string is
+/// its number, and in one of days or times it is the value that it writes. A number between two
+/// values, below or above all of them makes a comparison what it is for each value: True or False,
+/// and Unknown for a null.
 ///
 /// `TooDeep` if more than `MAX_DEPTH` connectives and parentheses nest. Of several mistakes the
 /// first one from the front is told.
@@ -85,6 +88,7 @@ pub fn parse_within(
         (RefusesSqlWithin depth (column_trees columns.now) text.now) }
     ensures placed { IfErr result (IsPlaced (length text.now)) }
 {
+    integers_lie_at_themselves();
     let lexed = lex(alloc, text)?;
     filter_in(alloc, columns, &lexed.tokens, lexed.ending, depth)
 }
@@ -171,6 +175,7 @@ fn caused(place: usize, cause: Cause) -> ParseError
         Cause::NoColumn => ParseError::NoColumn { offset: place },
         Cause::TypesDiffer => ParseError::TypesDiffer { offset: place },
         Cause::NoLiteral => ParseError::NoLiteral { offset: place },
+        Cause::NumberTooLong => ParseError::NumberTooLong { offset: place },
         Cause::TooDeep => ParseError::TooDeep { offset: place },
     }
 }

@@ -7,12 +7,15 @@ ghost use Rattle.filter_sql.specs.Words.{flat_map, formula, group_text, is_speci
 ghost use Rattle.filter_sql.specs.Words.{literal_text, literals_text, membership_text, names_of, negation};
 ghost use Rattle.filter_sql.specs.Words.{null_test_text, operator_text, or_text, patterned, prefix_pattern};
 ghost use Rattle.filter_sql.specs.Words.{prefix_text, quotable, quoted, range_text, scalar_content, sql_text};
+ghost use Rattle.filter_sql.specs.Printing.{is_extended};
 ghost use Rattle.filter_sql.specs.Words.{starts_with_text, text_at, two_digits};
+ghost use Rattle.vortex_dtype.specs.TypeOf.{type_of};
 
 use crate::column::Column;
 use crate::lex::keyword_text;
 use crate::token::Keyword;
 use std::fmt::{self, Display, Formatter, Write};
+use vortex_dtype::DType;
 use vortex_filter::{CompareOperator, Filter, Truth};
 use vortex_value::{Scalar, ScalarValue};
 
@@ -151,12 +154,20 @@ fn write_column<W: Write>(column: usize, columns: &[Column], f: &mut Formatter<W
     }
 }
 
+/// Whether values of the type are more than what stores them.
+fn is_extended(dtype: &DType) -> bool
+    ensures { result ≡ is_extended (type_of dtype.now) }
+{
+    matches!(dtype, DType::Extension(_))
+}
+
 /// Writes a literal, and a question mark for what SQL has no literal for.
 fn write_literal<W: Write>(literal: &Scalar, f: &mut Formatter<W>) -> fmt::Result
     ensures { WritesOnOk W.write_str_gives f.old result (literal_text (cell_of literal.now)) f.new }
 {
     match literal.value() {
         None => f.write_str("null"),
+        Some(_) if is_extended(&literal.dtype) => f.write_str("?"),
         Some(ScalarValue::Bool(true)) => f.write_str("true"),
         Some(ScalarValue::Bool(false)) => f.write_str("false"),
         Some(ScalarValue::Primitive(number)) => {

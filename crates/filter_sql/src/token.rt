@@ -26,8 +26,8 @@ pub(crate) enum Token {
     Keyword(Keyword),
     /// A name: a bare word, or anything in double quotes.
     Name(String),
-    /// A whole number: whether a minus sign stands before it, and its digits.
-    Integer { is_negative: bool, magnitude: u64 },
+    /// A number, as it is written: `10`, `-0.5`, `1e30`.
+    Number(String),
     /// A string, in single quotes.
     Text(String),
     /// Bytes, as in `x'00ff'`.

@@ -18,7 +18,7 @@ ghost use Rattle.filter_sql.specs.Reading.{text_prefix};
 use crate::error::Expected;
 use crate::parsing::column_names::Found;
 use crate::parsing::errors::{Cause, TokenError};
-use crate::parsing::literals::{position_at, position_in, prefix};
+use crate::parsing::literals::{position_at, prefix, string_in};
 use crate::parsing::tokens::{
     after_closing, after_comma, after_keyword, expect_closing, expect_keyword, expect_opening,
     expect_string, expected, operator_at, tokens_left,
@@ -27,7 +27,7 @@ use crate::token::{Keyword, Placed};
 use std::alloc::Global;
 use vortex_dtype::DType;
 use vortex_filter::{
-    CompareOperator, Filter, Literal, comparison_of, member_of, range_of, with_position,
+    CompareOperator, Filter, comparison_of, member_of, range_of, with_position,
 };
 use vortex_value::Scalar;
 
@@ -316,6 +316,6 @@ fn text_prefix(
     let Ok(text) = str::from_utf8(bytes.as_slice()) else {
         return Err(TokenError::At(left, Cause::Expected(Expected::Prefix)));
     };
-    let literal = position_in(alloc, column.dtype, Literal::Text(text), left)?;
+    let literal = string_in(alloc, column.dtype, text, left)?;
     prefix(column.place, literal, left)
 }

@@ -18,6 +18,8 @@ pub(crate) enum Cause {
     TypesDiffer,
     /// No literal but `null` can be written for values of the column's type.
     NoLiteral,
+    /// The column's type takes no such number.
+    NumberTooLong,
     /// Parentheses and connectives nest too deep.
     TooDeep,
 }

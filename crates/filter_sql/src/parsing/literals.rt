@@ -7,15 +7,19 @@ ghost use Rattle.vortex_filter.specs.FilterLiterals.{AreValid, literals_of};
 ghost use Rattle.vortex_filter.specs.Formula.{formula};
 ghost use Rattle.vortex_filter.specs.Literals.{literal_tree, position_of};
 ghost use Rattle.vortex_filter.specs.Positions.{position_tree, prefix_of, scalars_of};
-ghost use Rattle.filter_sql.specs.Literals.{keyword_literal, literal_of, signed};
+ghost use Rattle.filter_sql.specs.Literals.{keyword_literal, literal_of};
 ghost use Rattle.filter_sql.specs.Tokens.{token_tree, trees};
-ghost use Rattle.filter_sql.specs.Mistakes.{Gives, literal_cause, literal_mistake, other_type};
-ghost use Rattle.filter_sql.specs.Reading.{position_at, token_position};
+ghost use Rattle.filter_sql.specs.Mistakes.{Gives, holds_numbers, literal_cause, literal_mistake, other_type};
+ghost use Rattle.filter_sql.specs.Mistakes.{refusal};
+ghost use Rattle.filter_sql.specs.Reading.{position_at, string_in, token_position};
 
 use crate::error::Expected;
 use crate::parsing::errors::{Cause, TokenError};
 use crate::parsing::tokens::{expected, tokens_left};
 use crate::token::{Keyword, Placed, Token};
+use logical_scalars::laws::shapes_say_types;
+use logical_scalars::logical_type_of;
+use logical_types::LogicalType;
 use std::alloc::Global;
 use vortex_dtype::DType;
 use vortex_filter::{Filter, Literal, Position, prefix_of};
@@ -59,7 +63,7 @@ fn token_position(
 }
 
 /// Where a literal stands among the values of the type. So many tokens are left.
-pub(crate) fn position_in(
+fn position_in(
     alloc: Global,
     dtype: &DType,
     literal: Literal<'_>,
@@ -67,13 +71,31 @@ pub(crate) fn position_in(
 ) -> Result<Position, TokenError>
     ensures read { Gives position_tree result
         (position_of (type_of dtype.now) (literal_tree literal.entry))
-        (TokenError.At left (other_type (type_of dtype.now))) }
+        (TokenError.At left (refusal (type_of dtype.now) (literal_tree literal.entry))) }
     ensures valid { IfOk result (λ p. AreValid (scalars_of p)) }
 {
     match literal.position(alloc, dtype) {
         Ok(Some(position)) => Ok(position),
-        Ok(None) => Err(TokenError::At(left, other_type(dtype))),
+        Ok(None) => Err(TokenError::At(left, refusal(dtype, literal))),
         Err(_) => Err(TokenError::NoMemory),
+    }
+}
+
+/// Where a string stands in a column of strings. So many tokens are left.
+#[tactic(auto, using(crate::proofs::StringSteps::strings))]
+pub(crate) fn string_in(
+    alloc: Global,
+    dtype: &DType,
+    text: &str,
+    left: usize,
+) -> Result<Position, TokenError>
+    ensures read { Gives position_tree result (string_in (type_of dtype.now) text.now)
+        (TokenError.At left (other_type (type_of dtype.now))) }
+    ensures valid { IfOk result (λ p. AreValid (scalars_of p)) }
+{
+    match dtype {
+        DType::Utf8(_) => position_in(alloc, dtype, Literal::Text(text), left),
+        _ => Err(TokenError::At(left, other_type(dtype))),
     }
 }
 
@@ -84,10 +106,7 @@ fn literal_of(token: &Token) -> Option<Literal<'_>>
 {
     match token {
         Token::Keyword(keyword) => keyword_literal(*keyword),
-        Token::Integer {
-            is_negative,
-            magnitude,
-        } => Some(Literal::Number(signed(*is_negative, *magnitude))),
+        Token::Number(word) => Some(Literal::Number(word.as_str())),
         Token::Text(text) => Some(Literal::Text(text.as_str())),
         Token::Bytes(bytes) => Some(Literal::Bytes(bytes.as_slice())),
         Token::Name(_) | Token::Operator(_) | Token::Open | Token::Close | Token::Comma => None,
@@ -106,14 +125,28 @@ fn keyword_literal<'a>(keyword: Keyword) -> Option<Literal<'a>>
     }
 }
 
-/// The number that a sign and digits say.
-fn signed(is_negative: bool, magnitude: u64) -> i128
-    ensures { result ≡ signed is_negative magnitude }
+/// Why a literal is none of the type.
+fn refusal(dtype: &DType, literal: Literal<'_>) -> Cause
+    ensures { result ≡ refusal (type_of dtype.now) (literal_tree literal.entry) }
 {
-    if is_negative {
-        -(magnitude as i128)
-    } else {
-        magnitude as i128
+    match literal {
+        Literal::Number(_) if holds_numbers(dtype) => Cause::NumberTooLong,
+        _ => other_type(dtype),
+    }
+}
+
+/// Whether numbers are written in a column of the type.
+fn holds_numbers(dtype: &DType) -> bool
+    ensures { result ≡ holds_numbers (type_of dtype.now) }
+{
+    shapes_say_types();
+    match dtype {
+        DType::Primitive(_, _) => true,
+        DType::Extension(_) => matches!(
+            logical_type_of(dtype),
+            Some(LogicalType::Float64 | LogicalType::Float32 | LogicalType::Decimal(_))
+        ),
+        _ => false,
     }
 }
 
@@ -121,10 +154,12 @@ fn signed(is_negative: bool, magnitude: u64) -> i128
 fn other_type(dtype: &DType) -> Cause
     ensures { result ≡ other_type (type_of dtype.now) }
 {
+    shapes_say_types();
     match dtype {
         DType::Bool(_) | DType::Primitive(_, _) | DType::Utf8(_) | DType::Binary(_) => {
             Cause::TypesDiffer
         }
+        DType::Extension(_) if logical_type_of(dtype).is_some() => Cause::TypesDiffer,
         _ => Cause::NoLiteral,
     }
 }

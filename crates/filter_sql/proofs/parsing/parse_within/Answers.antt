@@ -20,8 +20,8 @@ returns-clause-read c =
 
 pub returns-clause-printed : goal.returns-clause-printed
 returns-clause-printed c = λ names f readable deep is.
-    result_reads_back c.args.depth (column_trees c.args.columns.now) names c.deref.result.now c.in_ok-lexed.lexed.ending f readable deep
-    (rw c.deref.ensures.value (c.in_ok-lexed.ensures.canonical (tokens_of names f) (text_tokens (column_trees c.args.columns.now) names f c.args.depth readable deep) is)) c.filter_in.result c.filter_in.ensures.given c.filter_in.ensures.refused
+    result_reads_back c.integers_lie_at_themselves.ensures c.args.depth (column_trees c.args.columns.now) names c.deref.result.now c.in_ok-lexed.lexed.ending f readable deep
+    (rw c.deref.ensures.value (c.in_ok-lexed.ensures.canonical (tokens_of names f) (text_tokens c.integers_lie_at_themselves.ensures (column_trees c.args.columns.now) names f c.args.depth readable deep) is)) c.filter_in.result c.filter_in.ensures.given c.filter_in.ensures.refused
 
 pub returns-clause-refused : goal.returns-clause-refused
 returns-clause-refused c =
