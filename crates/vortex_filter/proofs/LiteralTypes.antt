@@ -1,7 +1,12 @@
 -- Literals in columns of logical types.
-use Rattle.std.proofs.Common.{◌≡◌, ◌↔◌, ℤ, List, ℕ, Option, Some, None, Result, Ok, Err, IfOk, option_and_then, option_map, refl, sym, subst, ap, ap₂, ◌∙◌}
+use Rattle.std.proofs.Common.{◌≡◌, ◌↔◌, ◌&&◌, ◌+ℤ◌, Bool, true, false, cond, pos, ℤ, List, ℕ, Option, Some, None, Result, Ok, Err, IfOk, option_and_then, option_map, refl, sym, subst, ap, ap₂, ◌∙◌}
 use Rattle.vortex_dtype.specs.TypeTree.{TypeTree}
 use Rattle.vortex_dtype.specs.declared.ptype.PType.{PType}
+use Rattle.std.specs.Ordering.{int_cmp}
+use Rattle.vortex_pvalue.specs.Conversions.{IsNumber}
+use Rattle.vortex_pvalue.specs.Numbers.{InRange, in_range}
+use Rattle.vortex_pvalue.specs.RangeLaws.{in_range_false, in_range_true}
+use Rattle.vortex_pvalue.specs.declared.pvalues.PValue.{PValue}
 use Rattle.vortex_value.specs.Values.Content.{Content, content}
 use Rattle.vortex_value.specs.Values.Scalars.{IsMadeOf, scalar_content}
 use Rattle.vortex_value.specs.declared.scalars.Scalar.{Scalar}
@@ -19,8 +24,8 @@ use Rattle.logical_types.specs.declared.logical.LogicalType.TheVariants.{Float64
 use Rattle.logical_types.specs.declared.times.TimeUnit.TheVariants.{Seconds, Milliseconds, Microseconds, Nanoseconds}
 use Rattle.vortex_filter.specs.declared.error.FilterError.{FilterError}
 use Rattle.vortex_filter.specs.declared.literals.Position.{Position}
-use Rattle.vortex_filter.specs.Literals.{integer_at, integer_in, logical_cell, storage_content, written_value}
-use Rattle.vortex_filter.specs.Positions.{PositionTree, exactly, position_tree}
+use Rattle.vortex_filter.specs.Literals.{gap_position, integer_at, integer_in, logical_cell, number_cell, storage_content, written_value}
+use Rattle.vortex_filter.specs.Positions.{PositionTree, exactly, just_above, lacking, position_tree}
 
 -- ---- the shape of a type
 
@@ -95,3 +100,41 @@ pub place_absent : (k : PType) (word : List ℕ) → ◌≡◌ {A = Option Decim
 place_absent k word e = ap (option_map (integer_at k)) e
 
 pub ruleset places = (place_there, place_absent)
+
+pub by_place : (f : DecimalPlace → PositionTree) (o : Option DecimalPlace) (place : DecimalPlace) (r : Result (Option Position) FilterError) → Some place ≡ o → Stands (Some (f place)) r → Stands (option_map f o) r
+by_place f o place r e h = subst (λ (q : Option DecimalPlace). Stands (option_map f q) r) e h
+
+pub no_place : (f : DecimalPlace → PositionTree) (o : Option DecimalPlace) → None ≡ o → ◌≡◌ {A = Option PositionTree} None (option_map f o)
+no_place f o e = ap (option_map f) e
+
+-- ---- integers
+
+pub has_number : (k : PType) (z : ℤ) (v : PValue) → IsNumber k z v → true ≡ in_range k z
+has_number k z v n = sym (in_range_true k z n.2)
+
+pub has_none : (k : PType) (z : ℤ) → ¬ (InRange k z) → false ≡ in_range k z
+has_none k z n = sym (in_range_false k z n)
+
+pub ruleset had = (has_number, has_none)
+
+abbrev gap_of : PType → ℤ → Bool → PositionTree
+gap_of k z b = cond b (just_above (number_cell k z)) (lacking (int_cmp (pos 0) z))
+
+pub gap_above : (k : PType) (z w : ℤ) (v : PValue) (b : Bool) → w ≡ z +ℤ pos 1 → b ≡ in_range k w → b ≡ true → IsNumber k z v → just_above (number_cell k z) ≡ gap_position k z
+gap_above k z w v b e h t n =
+    let both : (in_range k z && in_range k (z +ℤ pos 1)) ≡ true = rw (in_range_true k z n.2) (ap (in_range k) (sym e) ∙ sym h ∙ t) in
+    sym (ap (gap_of k z) both)
+
+pub gap_last : (k : PType) (z w : ℤ) (b : Bool) → w ≡ z +ℤ pos 1 → b ≡ in_range k w → b ≡ false → lacking (int_cmp (pos 0) z) ≡ gap_position k z
+gap_last k z w b e h t =
+    let last : in_range k (z +ℤ pos 1) ≡ false = ap (in_range k) (sym e) ∙ sym h ∙ t in
+    sym (ap (λ (c : Bool). gap_of k z (in_range k z && c)) last ∙ ap (gap_of k z) (and_false (in_range k z)))
+  where
+    and_false : (c : Bool) → (c && false) ≡ false
+    and_false true = refl
+    and_false false = refl
+
+pub gap_none : (k : PType) (z : ℤ) → ¬ (InRange k z) → lacking (int_cmp (pos 0) z) ≡ gap_position k z
+gap_none k z n = sym (ap (λ (c : Bool). gap_of k z (c && in_range k (z +ℤ pos 1))) (in_range_false k z n))
+
+pub ruleset gaps = (gap_above, gap_last, gap_none)

@@ -12,7 +12,7 @@ ghost use Rattle.vortex_filter.specs.Literals.{number_in, number_of_shape, numbe
 ghost use Rattle.vortex_filter.specs.Literals.{text_cell, text_in, text_of_shape, text_of_type, truth_in};
 ghost use Rattle.vortex_filter.specs.Literals.{written_value};
 ghost use Rattle.vortex_filter.specs.Positions.{exactly, position_tree, scalars_of};
-ghost use Rattle.vortex_filter.specs.Words.{IsValid, OutOfMemory, as_nullable, cell_of, type_of};
+ghost use Rattle.vortex_filter.specs.Words.{IsValid, OutOfMemory, as_nullable, cell_of, in_range, type_of};
 
 use crate::error::FilterError;
 use logical_scalars::laws::shapes_say_types;
@@ -175,13 +175,25 @@ fn integer_position(ptype: PType, number: i128) -> Position
     }
 }
 
+/// Whether the type has the integer.
+#[tactic(auto, using(crate::proofs::LiteralTypes::had))]
+fn has(ptype: PType, number: i128) -> bool
+    ensures { result ≡ in_range ptype number }
+{
+    match PValue::from_whole(number, ptype) {
+        Some(_) => true,
+        None => false,
+    }
+}
+
 /// What lies between an integer and the next among those of a type.
+#[tactic(auto, using(crate::proofs::LiteralTypes::gaps))]
 fn gap_position(ptype: PType, number: i128) -> Position
     requires { unsigned_abs number < 10 ^ 38 }
     ensures value { position_tree result ≡ gap_position ptype number }
     ensures valid { AreValid (scalars_of result) }
 {
-    if PValue::from_whole(number + 1, ptype).is_none() {
+    if !has(ptype, number + 1) {
         return Position::Lacking(0i128.cmp(&number));
     }
     match PValue::from_whole(number, ptype) {
