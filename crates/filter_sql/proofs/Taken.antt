@@ -3,7 +3,8 @@ use Rattle.std.proofs.Common.{◌≡◌, ◌≢◌, ◌⊎◌, inl, inr, ℕ, ze
 use Rattle.std.proofs.str.Laws.{order}
 use Rattle.std.specs.Char.{digit_value, is_ascii_digit, to_ascii_lowercase}
 use Rattle.std.specs.List.{prefix_len, position_or_len, list_all, find}
-use Rattle.std.specs.Str.{bytes_eq}
+use Rattle.std.specs.Str.{IsCharBoundary, IsUtf8, bytes_eq}
+use Rattle.std.proofs.lemmas.Str.{IsCharBoundary-at_seam}
 use Rattle.std.proofs.lemmas.Slice.Eq.{bytes_eq-Decides}
 use Rattle.std.specs.Str.Parse.{AllDigits, IsNumeral}
 use Rattle.std.proofs.lemmas.Bool.Decides.{nat_tests}
@@ -305,6 +306,14 @@ unsigned_taken text rest h =
       is = record { negative = m.0; whole = d.digits; fraction = f.0; power = p.0; text = refl; digits = d.numeral; places = f.2; raised = p.2 };
       some = simp length-append (omega (arith, d.numeral.0));
     }
+
+-- the word of a number may be cut off
+pub number_seam : (text rest : List ℕ) → after_number (after_minus text) ≡ Some rest → IsUtf8 rest → (length rest ≤ length text) × IsCharBoundary text (length text - length rest)
+number_seam text rest h utf8 =
+    let n = unsigned_taken text rest h in
+    let size : length text ≡ length n.word + length rest = ap length n.whole ∙ length-append n.word rest in
+    let count : length n.word ≡ length text - length rest = omega (arith, size) in
+    (omega (arith, size), subst (IsCharBoundary text) count (IsCharBoundary-at_seam text n.word rest n.whole utf8))
 
 number_cut_taken : (text : List ℕ) (o : Option (List ℕ)) (t : TokenTree) (after : List ℕ) → after_number (after_minus text) ≡ o → number_cut text o ≡ Ok (t, after) → Taken text t after
 number_cut_taken text None t after read h = cc
