@@ -8,8 +8,8 @@ use Rattle.vortex_filter.proofs.literals.decimal_in.Goals as goal
 pub returns-in-Some-clause-value : goal.returns-in-Some-clause-value
 returns-in-Some-clause-value c =
     by_place (decimal_at (type_of c.args.dtype.now) (decimals c.args.decimal.precision c.args.decimal.scale)) (place_in c.args.decimal.precision c.args.decimal.scale c.args.word.now) c.in-Some.place c.decimal_at.result
-    c.in-Some.ensures.value c.decimal_at.ensures.value
+    (rw c.as_bytes.ensures.value at c.in-Some.ensures.value) c.decimal_at.ensures.value
 
 pub returns-in-None-clause-value : goal.returns-in-None-clause-value
 returns-in-None-clause-value c =
-    no_place (decimal_at (type_of c.args.dtype.now) (decimals c.args.decimal.precision c.args.decimal.scale)) (place_in c.args.decimal.precision c.args.decimal.scale c.args.word.now) c.in-None.ensures.value
+    no_place (decimal_at (type_of c.args.dtype.now) (decimals c.args.decimal.precision c.args.decimal.scale)) (place_in c.args.decimal.precision c.args.decimal.scale c.args.word.now) (rw c.as_bytes.ensures.value at c.in-None.ensures.value)
