@@ -6,7 +6,7 @@ use Rattle.std.proofs.lemmas.Str.Ascii.{trim_ascii_start_is}
 use Rattle.std.specs.Str.{IsTrimAsciiStart}
 use Rattle.filter_sql.specs.declared.error.ParseError.TheVariants as errors
 use Rattle.filter_sql.specs.declared.lex.LexError.{LexError}
-use Rattle.filter_sql.specs.declared.lex.LexError.TheVariants.{OutOfMemory, NumberTooLong, BadText}
+use Rattle.filter_sql.specs.declared.lex.LexError.TheVariants.{OutOfMemory, BadText}
 use Rattle.filter_sql.specs.declared.token.Placed.{Placed}
 use Rattle.filter_sql.specs.Tokens.{TokenTree, canonical, token_tree, trees, AreTokens}
 use Rattle.filter_sql.specs.Lexing.{Fails, token_at}
@@ -35,18 +35,15 @@ pub stopped_ends : (text rest : List ℕ) (placed : Vec Placed Global) (fault : 
     → place ≡ length text - length rest → Fails fault (token_at rest) → IfOk (stopped placed place fault) (λ lexed. EndsAt text (items lexed.tokens.items) lexed.ending)
 stopped_ends text rest placed OutOfMemory place read some within here failed = tt
 stopped_ends text rest placed BadText place read some within here failed = record { rest = rest; read = read; here = omega arith; some = some; none = no_front rest BadText failed; why = failed }
-stopped_ends text rest placed NumberTooLong place read some within here failed = record { rest = rest; read = read; here = omega arith; some = some; none = no_front rest NumberTooLong failed; why = failed }
 
 pub stopped_refuses : (placed : Vec Placed Global) (fault : LexError) (place : ℕ) → IfErr (stopped placed place fault) (λ e. e ≡ errors.OutOfMemory)
 stopped_refuses placed OutOfMemory place = refl
 stopped_refuses placed BadText place = tt
-stopped_refuses placed NumberTooLong place = tt
 
 -- what holds of the tokens and the place holds of what is given
 pub stopped_has : (P : List Placed → ℕ → Type 0) (placed : Vec Placed Global) (fault : LexError) (place : ℕ) → P placed.items place → IfOk (stopped placed place fault) (λ lexed. P lexed.tokens.items lexed.ending.place)
 stopped_has P placed OutOfMemory place h = tt
 stopped_has P placed BadText place h = h
-stopped_has P placed NumberTooLong place h = h
 
 reads_printed : (text : List ℕ) (ts : List TokenTree) → AreTokens ts → text ≡ canonical ts → Reads (trimmed text) ts
 reads_printed text ts all same = subst (λ (l : List ℕ). Reads (trimmed l) ts) (sym same) (subst (λ (l : List ℕ). Reads l ts) (sym (canonical_trimmed ts all)) (canonical_reads ts all))
@@ -56,7 +53,6 @@ pub printed_stops : (text rest : List ℕ) (placed : Vec Placed Global) (fault :
     → (ts : List TokenTree) → AreTokens ts → text ≡ canonical ts → IfOk (stopped placed place fault) (λ lexed. (trees lexed.tokens.items ≡ ts) × (lexed.ending.fault ≡ None))
 printed_stops text rest placed OutOfMemory place read some failed ts all same = tt
 printed_stops text rest placed BadText place read some failed ts all same = absurd (no_fault (length text) (trimmed text) (items placed.items) rest BadText ts read some failed (reads_printed text ts all same))
-printed_stops text rest placed NumberTooLong place read some failed ts all same = absurd (no_fault (length text) (trimmed text) (items placed.items) rest NumberTooLong ts read some failed (reads_printed text ts all same))
 
 -- and has the tokens that were printed
 pub printed_tokens : (text : List ℕ) (placed : List Placed) → AreItemsOf text (items placed) → (ts : List TokenTree) → AreTokens ts → text ≡ canonical ts → trees placed ≡ ts

@@ -48,7 +48,6 @@ fault_placed end fault e is = subst (IsPlaced end) (sym is) (by_fault fault)
   where
     by_fault : (fault : Unread) → IsPlaced end (fault_at fault end)
     by_fault unreads.OutOfMemory = tt
-    by_fault unreads.NumberTooLong = omega arith
     by_fault unreads.BadText = omega arith
 
 -- behind the last token it is that no token begins, and before that a mistake of the tokens

@@ -19,7 +19,7 @@ use Rattle.vortex_pvalue.specs.RangeLaws.{in_range_true}
 use Rattle.vortex_cells.specs.Cells.{Cell}
 use Rattle.logical_types.specs.Decimals.{decimal_text}
 use Rattle.logical_types.specs.Shapes.{place_in}
-use Rattle.logical_types.specs.declared.decimals.places.DecimalPlace.TheVariants.{At}
+use Rattle.logical_types.specs.declared.decimals.places.DecimalPlace.TheVariants as places
 use Rattle.filter_sql.specs.declared.print.Level.{Level}
 use Rattle.filter_sql.specs.declared.print.Level.TheVariants as levels
 use Rattle.filter_sql.specs.declared.token.Keyword.TheVariants as keywords
@@ -72,7 +72,7 @@ passed_negative I64 n h = let small : n < 2 ^ 63 = ltb-true n (2 ^ 63) h in omeg
 
 -- what is printed of an integer lies at it
 abbrev pub IntegersThere : Type 0
-IntegersThere = (z : ℤ) → unsigned_abs z < 10 ^ 38 → place_in 38 0 (decimal_text 0 z) ≡ Some (At z)
+IntegersThere = (z : ℤ) → unsigned_abs z < 10 ^ 38 → place_in 38 0 (decimal_text 0 z) ≡ Some (places.At z)
 
 text_is : (z : ℤ) → integer_text z ≡ decimal_text 0 z
 text_is (pos m) = sym (append-nil (decimal m))

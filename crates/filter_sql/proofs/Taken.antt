@@ -1,5 +1,5 @@
 -- What is read is spelled as the token says, and ends where it has to.
-use Rattle.std.proofs.Common.{◌≡◌, ◌≢◌, ◌⊎◌, inl, inr, ℕ, zero, suc, ◌+◌, ◌-◌, ◌<◌, ◌≤◌, ◌||◌, ◌&&◌, List, [], ◌∷◌, ◌++◌, Option, Some, None, IfSome, option_and_then, Bool, true, false, not, cond, Result, Ok, Err, append_assoc, add-one, add-zero, nat_lt, length-append, length, get_or, take, drop, map, refl, sym, ap, ◌∙◌, subst, arith, ◌==◌, ⊎_elim, length-take-le, get_or-drop, take-append-drop}
+use Rattle.std.proofs.Common.{◌≡◌, ◌≢◌, ◌⊎◌, inl, inr, ℕ, zero, suc, ◌+◌, ◌-◌, ◌<◌, ◌≤◌, ◌||◌, ◌&&◌, List, [], ◌∷◌, ◌++◌, Option, Some, None, IfSome, option_and_then, Bool, true, false, not, cond, Result, Ok, Err, append_assoc, add-one, add-zero, nat_lt, length-append, length, get_or, take, drop, map, refl, sym, ap, ◌∙◌, subst, arith, ◌==◌, ⊎_elim, length-take-le, get_or-drop, take-append-drop, ltb-true}
 use Rattle.std.proofs.str.Laws.{order}
 use Rattle.std.specs.Char.{digit_value, is_ascii_digit, to_ascii_lowercase}
 use Rattle.std.specs.List.{prefix_len, position_or_len, list_all, find}

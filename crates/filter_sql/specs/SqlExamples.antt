@@ -107,10 +107,10 @@ byte n = number_cell U8 (pos n)
 
 -- x < 300, x in (300, 1), x in (300), x between 0 and 300, and x = ''
 pub conditions :
-    (of_byte (compared Lt (number_literal (pos 300))) ≡ Some (either (negation (null_test 0)) (constant Unknown)))
-    × (of_byte (listed (number_literal (pos 300) ∷ number_literal (pos 1) ∷ [])) ≡ Some (membership 0 (byte 1 ∷ [])))
-    × (of_byte (listed (number_literal (pos 300) ∷ [])) ≡ Some (both (null_test 0) (constant Unknown)))
-    × (of_byte (between (number_literal (pos 0)) (number_literal (pos 300))) ≡ Some (both (comparison 0 Gte (byte 0)) (either (negation (null_test 0)) (constant Unknown))))
+    (of_byte (compared Lt (number_literal (codes "300"))) ≡ Some (either (negation (null_test 0)) (constant Unknown)))
+    × (of_byte (listed (number_literal (codes "300") ∷ number_literal (codes "1") ∷ [])) ≡ Some (membership 0 (byte 1 ∷ [])))
+    × (of_byte (listed (number_literal (codes "300") ∷ [])) ≡ Some (both (null_test 0) (constant Unknown)))
+    × (of_byte (between (number_literal (codes "0")) (number_literal (codes "300"))) ≡ Some (both (comparison 0 Gte (byte 0)) (either (negation (null_test 0)) (constant Unknown))))
     × (of_byte (compared Eq (text_literal [])) ≡ None)
 conditions = (refl, refl, refl, refl, refl)
 
