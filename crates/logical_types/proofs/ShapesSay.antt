@@ -13,9 +13,9 @@ use Rattle.jiff_core.specs.declared.civil.date.Date.{Date}
 use Rattle.jiff_core.specs.declared.error.Error.{Error}
 use Rattle.jiff_fmt.specs.Temporal.{DateParts, date_parts, parse_date}
 use Rattle.logical_types.specs.Clock.{IsTimeWord, time_written}
-use Rattle.logical_types.specs.Days.{IsDayWord}
-use Rattle.logical_types.specs.Shapes.{day_of_parts, if_between, is_between, is_date, parts_text, shape_of, storage_in, time_of_nanoseconds, timestamp_of_nanoseconds, whole_units}
-use Rattle.logical_types.specs.Times.{IsTimestamp, IsTimestampWord, moment_written, nanoseconds_of}
+use Rattle.logical_types.specs.Days.{IsDayWord, day_of_parts, day_written, is_between, is_date, parts_text}
+use Rattle.logical_types.specs.Shapes.{if_between, shape_of, storage_in, time_of_nanoseconds, timestamp_of_nanoseconds, whole_units}
+use Rattle.logical_types.specs.Times.{IsTimestamp, IsTimestampWord, nanoseconds_of, timestamp_written}
 use Rattle.logical_types.specs.Words.{Writes}
 use Rattle.logical_types.specs.declared.logical.LogicalType.{LogicalType}
 use Rattle.logical_types.specs.declared.logical.LogicalType.TheVariants.{Float64, Float32, Decimal, Date as Dates, Time, Timestamp}
@@ -159,12 +159,20 @@ day_from word (Ok p) z k = by_test (is_date p && bytes_eq word (parts_text p)) r
           written = (bytes_decides _ _).0 tests.1 ∙ sym (ap parts_text found.1);
         }
 
-day_to : (word : List ℕ) (z : ℤ) → IsDayWord word z → day_of_parts word (parse_date word) ≡ Some z
+pub day_to : (word : List ℕ) (z : ℤ) → IsDayWord word z → day_of_parts word (parse_date word) ≡ Some z
 day_to word z w =
     let text : bytes_eq word (parts_text (date_parts w.date)) ≡ true = (bytes_decides _ _).1 w.written in
     ap (day_of_parts word) (read_as w.date word w.written)
     ∙ ap (λ (b : Bool). cond b (Some (epoch_day w.date)) None) (and_true (is_date (date_parts w.date)) (bytes_eq word (parts_text (date_parts w.date))) (is_a_date w.date) text)
     ∙ ap Some w.counted
+
+-- a word of no day
+pub day_none : (word : List ℕ) → ((z : ℤ) → IsDayWord word z → ⊥) → day_written word ≡ None
+day_none word h = by_day (day_written word) refl
+  where
+    by_day : (o : Option ℤ) → day_written word ≡ o → day_written word ≡ None
+    by_day None e = e
+    by_day (Some z) e = absurd (h z (day_from word (parse_date word) z e))
 
 -- ---- times
 
@@ -194,9 +202,9 @@ first = neg_ℤ (pos 377_705_116_800_000_000_000)
 abbrev last : ℤ
 last = pos 253_402_300_799_999_999_999
 
-timestamp_from : (unit : TimeUnit) (zoned : Bool) (word : List ℕ) (z : ℤ) → option_and_then (timestamp_of_nanoseconds unit) (moment_written zoned word) ≡ Some z → IsTimestampWord unit zoned word z
+timestamp_from : (unit : TimeUnit) (zoned : Bool) (word : List ℕ) (z : ℤ) → option_and_then (timestamp_of_nanoseconds unit) (timestamp_written zoned word) ≡ Some z → IsTimestampWord unit zoned word z
 timestamp_from unit zoned word z h =
-    let a = then_from (moment_written zoned word) (timestamp_of_nanoseconds unit) z h in
+    let a = then_from (timestamp_written zoned word) (timestamp_of_nanoseconds unit) z h in
     let f = then_from (option_and_then (whole_units (nanoseconds_of unit)) (if_between first last a.0)) (if_between least most) z a.2 in
     let g = some_between least most f.0 z f.2 in
     let b = then_from (if_between first last a.0) (whole_units (nanoseconds_of unit)) f.0 f.1 in
@@ -205,7 +213,7 @@ timestamp_from unit zoned word z h =
     let within : IsBetween least most z = subst (IsBetween least most) g.1 g.0 in
     record { is = record { fits = omega (arith, ints, within.0, within.1); dated = subst (IsBetween first last) m c.0 }; moment = a.1 ∙ ap Some m }
 
-timestamp_to : (unit : TimeUnit) (zoned : Bool) (word : List ℕ) (z : ℤ) → IsTimestampWord unit zoned word z → option_and_then (timestamp_of_nanoseconds unit) (moment_written zoned word) ≡ Some z
+timestamp_to : (unit : TimeUnit) (zoned : Bool) (word : List ℕ) (z : ℤ) → IsTimestampWord unit zoned word z → option_and_then (timestamp_of_nanoseconds unit) (timestamp_written zoned word) ≡ Some z
 timestamp_to unit zoned word z w =
     let low : least ≤ℤ z = omega (arith, ints, w.is.fits) in
     let high : z ≤ℤ most = omega (arith, ints, w.is.fits) in

@@ -1,5 +1,5 @@
 -- The moment of a word, from its pieces, and of the words that are written.
-use Rattle.std.proofs.Common.{◌≡◌, ◌∙◌, ◌==◌, ◌+◌, ◌-ℤ◌, ◌*ℤ◌, ℕ, ℤ, pos, Bool, true, false, List, [], ◌∷◌, ◌++◌, Some, None, Ok, refl, ap, sym, subst, append-nil, arith, ◌<◌, ◌/◌, negsuc, w64, to_z, of_z, FitsSigned}
+use Rattle.std.proofs.Common.{◌≡◌, ◌∙◌, ◌==◌, ◌+◌, ◌-ℤ◌, ◌*ℤ◌, ℕ, ℤ, pos, Bool, true, false, List, [], ◌∷◌, ◌++◌, Option, Some, None, Ok, refl, ap, sym, subst, append-nil, arith, ◌<◌, ◌/◌, negsuc, w64, to_z, of_z, FitsSigned}
 use mir.Syntax.{w128}
 use Rattle.std.proofs.lemmas.Bool.Decides.{nat_tests}
 use Rattle.std.proofs.lemmas.Int.{ints}
@@ -20,7 +20,7 @@ use Rattle.jiff_fmt.specs.declared.temporal.pieces.PiecesOffset.{PiecesOffset}
 use Rattle.jiff_fmt.specs.Temporal.{zulu, temporal_datetime, date_spec, date_parts, offset_piece_view, parse_pieces, parts_nanos, piece_seconds, pieces_result_view, pieces_view, time_parts}
 use Rattle.logical_types.specs.declared.times.TimeUnit.{TimeUnit}
 use Rattle.logical_types.specs.declared.times.TimeUnit.TheVariants.{Seconds, Milliseconds, Microseconds, Nanoseconds}
-use Rattle.logical_types.specs.Times.{nanoseconds_of, has_separators, moment_at, moment_of_pieces, moment_of_time, moment_written}
+use Rattle.logical_types.specs.Times.{nanoseconds_of, has_separators, moment_at, moment_of_pieces, moment_of_time, moment_or_midnight, moment_written, timestamp_written}
 
 -- what the clock of a date and a time shows
 pub clock : (dt : DateTime) → parts_nanos (date_parts dt.date) (time_parts dt.time) ≡ civil_nanos dt
@@ -112,6 +112,10 @@ zulu_reads dt =
   where
     minus_zero : (x : ℤ) → x -ℤ nanos_of_seconds (pos 0) ≡ x
     minus_zero x = omega (arith, signed_arith)
+
+-- a moment that is read is the timestamp's
+pub moment_first : (z : Bool) (word : List ℕ) (m : ℤ) → moment_written z word ≡ Some m → timestamp_written z word ≡ Some m
+moment_first z word m e = ap (λ (o : Option ℤ). moment_or_midnight o z word) e
 
 -- by a printer's options
 pub by_options : (p : DateTimePrinter) (dt : DateTime) → options p ≡ (false, 84, None) → Printer.datetime_text p dt ≡ datetime_text false 84 None dt

@@ -9,7 +9,7 @@ use Rattle.jiff_fmt.specs.Temporal.{date_spec, temporal_datetime, time_spec, yea
 use Rattle.logical_types.specs.Shapes.{days, decimals, float64, place_in, shape_of_extension, storage_in, timestamps, times}
 use Rattle.logical_types.specs.declared.decimals.places.DecimalPlace.TheVariants.{At, Behind, BelowAll, AboveAll}
 use Rattle.logical_types.specs.declared.extensions.StorageType.TheVariants.{I32, I64, Bytes}
-use Rattle.logical_types.specs.declared.times.TimeUnit.TheVariants.{Seconds, Microseconds}
+use Rattle.logical_types.specs.declared.times.TimeUnit.TheVariants.{Seconds, Milliseconds, Microseconds}
 
 -- ---- extensions
 
@@ -52,6 +52,15 @@ without_zone = refl
 with_zone : storage_in (timestamps Microseconds true) (codes "2026-03-01T15:00:00Z") ≡ Some (pos 1772377200000000)
 unfolding annotations date_spec day_count days_from_civil days_of_months days_of_years field four_digits parse parse_offset parse_optional storage_in temporal_datetime temporal_fraction time_spec time_zone_annotation two_digits year
 with_zone = refl
+
+-- a date alone is its midnight where the type has no zone
+midnight : storage_in (timestamps Milliseconds false) (codes "2026-03-01") ≡ Some (pos 1772323200000)
+unfolding annotations date_spec day_count days_from_civil days_of_months days_of_years field four_digits parse storage_in temporal_datetime time_zone_annotation two_digits year
+midnight = refl
+
+no_midnight : storage_in (timestamps Milliseconds true) (codes "2026-03-01") ≡ None
+unfolding storage_in
+no_midnight = refl
 
 -- ---- places
 

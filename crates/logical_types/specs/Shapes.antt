@@ -1,17 +1,14 @@
 -- Logical types without the facts of their decimals: which one an extension is, and what their words write, as functions.
-use Rattle.std.specs.Prelude.{◌==◌, ◌&&◌, ◌+◌, ◌-◌, ◌*◌, ◌/◌, ◌%◌, ◌^◌, ◌<◌, ◌+ℤ◌, ℕ, ℤ, pos, negsuc, neg_ℤ, int_le, unsigned_abs, Bool, true, false, not, List, [], ◌∷◌, ◌++◌, Option, Some, None, Result, Ok, Err, codes, length, nat_le, nat_lt, if◌then◌else◌}
+use Rattle.std.specs.Prelude.{◌==◌, ◌&&◌, ◌+◌, ◌-◌, ◌*◌, ◌/◌, ◌%◌, ◌^◌, ◌<◌, ◌+ℤ◌, ℕ, ℤ, pos, negsuc, neg_ℤ, unsigned_abs, Bool, true, false, not, List, [], ◌∷◌, Option, Some, None, codes, length, nat_le, nat_lt, if◌then◌else◌}
 use Rattle.std.specs.Float.{binary32, binary64}
 use Rattle.std.specs.Option.{option_and_then, option_map}
 use Rattle.std.specs.Str.{bytes_eq}
-use Rattle.jiff_core.specs.Calendar.{days_from_civil, days_in_month}
-use Rattle.jiff_core.specs.declared.error.Error.{Error}
-use Rattle.jiff_fmt.specs.Temporal.{DateParts, parse_date}
-use Rattle.jiff_fmt.specs.Text.{pad2, year_text}
 use Rattle.logical_types.specs.Clock.{time_written}
 use Rattle.logical_types.specs.Decimals.{decimal_value}
 use Rattle.logical_types.specs.Floats.{storage_written}
 use Rattle.logical_types.specs.Places.{fine_scale, number_at}
-use Rattle.logical_types.specs.Times.{moment_written, nanoseconds_of}
+use Rattle.logical_types.specs.Days.{day_written, is_between}
+use Rattle.logical_types.specs.Times.{nanoseconds_of, timestamp_written}
 use Rattle.logical_types.specs.declared.decimals.places.DecimalPlace.{DecimalPlace}
 use Rattle.logical_types.specs.declared.decimals.places.DecimalPlace.TheVariants.{At, Behind, BelowAll, AboveAll}
 use Rattle.logical_types.specs.declared.extensions.StorageType.{StorageType}
@@ -123,23 +120,9 @@ abbrev pub whole_units : ℕ → ℤ → Option ℤ
 whole_units unit (pos m) = if m % unit == 0 then Some (pos (m / unit)) else None
 whole_units unit (negsuc m) = if (m + 1) % unit == 0 then Some (neg_ℤ (pos ((m + 1) / unit))) else None
 
-abbrev pub is_between : ℤ → ℤ → ℤ → Bool
-is_between low high z = int_le low z && int_le z high
-
 -- z, if it lies there
 abbrev pub if_between : ℤ → ℤ → ℤ → Option ℤ
 if_between low high z = if is_between low high z then Some z else None
-
--- the day of a date, if its parts are in range
-abbrev pub is_date : DateParts → Bool
-is_date p = is_between (neg_ℤ (pos 9999)) (pos 9999) p.year && ((nat_le 1 p.month && nat_le p.month 12) && (nat_le 1 p.day && nat_le p.day (days_in_month p.year p.month)))
-
-abbrev pub parts_text : DateParts → List ℕ
-parts_text p = year_text p.year ++ 45 ∷ [] ++ pad2 p.month ++ 45 ∷ [] ++ pad2 p.day
-
-abbrev pub day_of_parts : List ℕ → Result DateParts Error → Option ℤ
-day_of_parts word (Ok p) = if is_date p && bytes_eq word (parts_text p) then Some (days_from_civil p.year p.month p.day) else None
-day_of_parts word (Err e) = None
 
 -- units since midnight, and since 1970-01-01T00:00:00 in the years -9999 to 9999 and in 64 bits
 abbrev pub time_of_nanoseconds : TimeUnit → ℤ → Option ℤ
@@ -155,9 +138,9 @@ unfoldable pub storage_in : Shape → List ℕ → Option ℤ
 storage_in float64 word = storage_written binary64 word
 storage_in float32 word = storage_written binary32 word
 storage_in (decimals precision scale) word = decimal_value (10 ^ precision) scale word
-storage_in days word = day_of_parts word (parse_date word)
+storage_in days word = day_written word
 storage_in (times unit) word = option_and_then (time_of_nanoseconds unit) (time_written word)
-storage_in (timestamps unit is_zoned) word = option_and_then (timestamp_of_nanoseconds unit) (moment_written is_zoned word)
+storage_in (timestamps unit is_zoned) word = option_and_then (timestamp_of_nanoseconds unit) (timestamp_written is_zoned word)
 
 -- ---- places
 

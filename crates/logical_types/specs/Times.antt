@@ -1,10 +1,12 @@
 -- Timestamps as words, and as numbers of a unit since 1970-01-01T00:00:00.
 use Rattle.std.specs.Prelude.{◌≡◌, ◌+◌, ◌==◌, ◌&&◌, ◌||◌, not, ℕ, ℤ, pos, ◌*ℤ◌, ◌-ℤ◌, Bool, true, false, List, Option, Some, None, Result, Ok, Err, if◌then◌else◌, slice_index, FitsSigned}
 use Rattle.std.specs.Int.{w64}
+use Rattle.std.specs.Option.{option_map}
 use Rattle.jiff_core.specs.DateTime.{IsCivilNanos}
 use Rattle.jiff_core.specs.Timestamp.{nanos_of_seconds}
 use Rattle.jiff_core.specs.declared.error.Error.{Error}
 use Rattle.jiff_fmt.specs.Temporal.{OffsetPiece, PiecesParts, TimeParts, ZonePiece, parse_pieces, parts_nanos, piece_seconds}
+use Rattle.logical_types.specs.Days.{day_written}
 use Rattle.logical_types.specs.declared.times.TimeUnit.{TimeUnit}
 use Rattle.logical_types.specs.declared.times.TimeUnit.TheVariants.{Seconds, Milliseconds, Microseconds, Nanoseconds}
 
@@ -44,6 +46,24 @@ moment_of_pieces is_zoned (Ok p) = moment_of_time is_zoned p p.time
 abbrev pub moment_written : Bool → List ℕ → Option ℤ
 moment_written is_zoned word = if has_separators word then moment_of_pieces is_zoned (parse_pieces word) else None
 
+-- how many nanoseconds a day has
+abbrev pub day_nanoseconds : ℕ
+day_nanoseconds = 86_400_000_000_000
+
+-- the moment at which the day of a word begins
+abbrev pub midnight_written : List ℕ → Option ℤ
+midnight_written word = option_map (λ day. day *ℤ pos day_nanoseconds) (day_written word)
+
+-- the moment that was read, or else the midnight of a date alone, where the type has no zone
+abbrev pub moment_or_midnight : Option ℤ → Bool → List ℕ → Option ℤ
+moment_or_midnight (Some moment) is_zoned word = Some moment
+moment_or_midnight None true word = None
+moment_or_midnight None false word = midnight_written word
+
+-- the moment that the word of a timestamp writes
+abbrev pub timestamp_written : Bool → List ℕ → Option ℤ
+timestamp_written is_zoned word = moment_or_midnight (moment_written is_zoned word) is_zoned word
+
 -- z is a number of the unit since 1970-01-01T00:00:00, in 64 bits and in the years -9999 to 9999
 pub record IsTimestamp (unit : TimeUnit) (z : ℤ) : Type 0 where
   pub fits : FitsSigned w64 z
@@ -52,4 +72,4 @@ pub record IsTimestamp (unit : TimeUnit) (z : ℤ) : Type 0 where
 -- the word writes the moment that is z units since 1970-01-01T00:00:00, exactly
 pub record IsTimestampWord (unit : TimeUnit) (is_zoned : Bool) (word : List ℕ) (z : ℤ) : Type 0 where
   pub is : IsTimestamp unit z
-  pub moment : moment_written is_zoned word ≡ Some (z *ℤ pos (nanoseconds_of unit))
+  pub moment : timestamp_written is_zoned word ≡ Some (z *ℤ pos (nanoseconds_of unit))

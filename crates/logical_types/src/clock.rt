@@ -5,13 +5,10 @@ ghost use Rattle.std.specs.Prelude.{◌≡◌, ◌<◌, ◌↔◌, ◌*ℤ◌, �
 ghost use Rattle.logical_types.specs.Clock.{IsTimeOfDay, IsTimeWord, time_written};
 ghost use Rattle.logical_types.specs.Times.{nanoseconds_of};
 
-use crate::times::{TimeUnit, moment_of_word};
+use crate::times::{DAY, TimeUnit, moment_of_word};
 use arrayvec::{ArrayString, ArrayVec};
 use jiff_core::civil::Time;
 use jiff_fmt::temporal::DateTimePrinter;
-
-/// How many nanoseconds a day has.
-const DAY: i128 = 86_400_000_000_000;
 
 /// The time that a word writes, as `14:05:57.25`. None of any other word, and of one with digits that the
 /// unit has no place for.

@@ -4,8 +4,10 @@
 ghost use Rattle.std.specs.Prelude.{◌≡◌, ◌↔◌, ◌*ℤ◌, ℤ, Some, IfNone, IfSome, IsSome, pos, slice_index};
 ghost use Rattle.jiff_core.specs.DateTime.{civil_nanos};
 ghost use Rattle.logical_types.specs.Times.{IsTimestamp, IsTimestampWord};
-ghost use Rattle.logical_types.specs.Times.{has_separators, moment_written, nanoseconds_of};
+ghost use Rattle.logical_types.specs.Times.{has_separators, midnight_written, moment_written, nanoseconds_of};
+ghost use Rattle.logical_types.specs.Times.{timestamp_written};
 
+use crate::dates::day_of_word;
 use arrayvec::ArrayString;
 use jiff_core::civil::DateTime;
 use jiff_fmt::temporal::{DateTimePrinter, parse_pieces};
@@ -37,15 +39,40 @@ impl TimeUnit {
     }
 }
 
+/// How many nanoseconds a day has.
+pub(crate) const DAY: i128 = 86_400_000_000_000;
+
 /// The timestamp that a word writes, as `2026-03-01T14:05:57.25` or with a space for the `T`, and with
-/// `Z` or an offset as `+01:00` exactly if the type has a zone: then it counts in UTC. None of any other
-/// word, and of one with digits that the unit has no place for.
+/// `Z` or an offset as `+01:00` exactly if the type has a zone: then it counts in UTC. Without seconds it
+/// is the full minute, and a date alone is its midnight, if the type has no zone. None of any other word,
+/// and of one with digits that the unit has no place for.
 pub fn timestamp_of_word(unit: TimeUnit, is_zoned: bool, word: &[u8]) -> Option<i64>
     ensures some { IfSome result (IsTimestampWord unit is_zoned word.now) }
     ensures none { IfNone result ((z : ℤ) → ¬ (IsTimestampWord unit is_zoned word.now z)) }
 {
-    let moment = moment_of_word(is_zoned, word)?;
+    let moment = moment_of_timestamp(is_zoned, word)?;
     timestamp_of_moment(unit, moment)
+}
+
+/// The moment that the word of a timestamp writes, in nanoseconds since 1970-01-01T00:00:00.
+fn moment_of_timestamp(is_zoned: bool, word: &[u8]) -> Option<i128>
+    ensures { result ≡ timestamp_written is_zoned word.now }
+{
+    match moment_of_word(is_zoned, word) {
+        Some(moment) => Some(moment),
+        None if is_zoned => None,
+        None => midnight_of_word(word),
+    }
+}
+
+/// The moment at which the day of a word begins.
+fn midnight_of_word(word: &[u8]) -> Option<i128>
+    ensures { result ≡ midnight_written word.now }
+{
+    match day_of_word(word) {
+        Some(day) => Some(day as i128 * DAY),
+        None => None,
+    }
 }
 
 /// The word of a timestamp, if the calendar has it: the years are -9999 to 9999. With a zone it ends in
@@ -74,7 +101,7 @@ fn word_of_civil(is_zoned: bool, civil: DateTime) -> ArrayString<33>
     word
 }
 
-/// The moment that a word writes, in nanoseconds since 1970-01-01T00:00:00.
+/// The moment that a date and a time write, in nanoseconds since 1970-01-01T00:00:00.
 pub(crate) fn moment_of_word(is_zoned: bool, word: &[u8]) -> Option<i128>
     ensures { result ≡ moment_written is_zoned word.now }
 {

@@ -1,6 +1,6 @@
 use Rattle.std.proofs.Common.{◌∙◌, refl, ap, subst, Some}
 use Rattle.jiff_core.specs.DateTime.{IsCivilNanos}
-use Rattle.logical_types.proofs.TimestampWords.{moment_of_units}
+use Rattle.logical_types.proofs.TimestampWords.{moment_first, moment_of_units}
 use Rattle.logical_types.proofs.times.word_of_timestamp.Goals as goal
 
 pub returns-in-Ok-clause-some : goal.returns-in-Ok-clause-some
@@ -13,5 +13,5 @@ returns-in-Ok-clause-word c =
     let e = moment_of_units c.args.unit c.args.timestamp c.nanoseconds.result c.ranges.timestamp c.nanoseconds.ensures in
     record {
       is = record { fits = c.ranges.timestamp; dated = subst IsCivilNanos e (c.in-Ok.ensures.succeeds.0 refl) };
-      moment = c.word_of_civil.ensures ∙ ap Some (c.in-Ok.ensures.value ∙ e);
+      moment = moment_first c.args.is_zoned c.word_of_civil.result.bytes _ (c.word_of_civil.ensures ∙ ap Some (c.in-Ok.ensures.value ∙ e));
     }
