@@ -7,19 +7,22 @@ use Rattle.vortex_dtype.specs.TypeTree.{TypeTree, Same, as_nullable, bool_type, 
 use Rattle.vortex_dtype.specs.declared.nullability.Nullability.{Nullability}
 use Rattle.vortex_dtype.specs.declared.ptype.PType.{PType}
 use Rattle.vortex_pvalue.specs.Numbers.{in_range}
+use Rattle.vortex_value.specs.Equality.{HasNoTyped}
 use Rattle.vortex_value.specs.TypesWithin.{HasNoVariant}
 use Rattle.vortex_cells.specs.Cells.{Cell}
 use Rattle.logical_scalars.specs.TypeShapes.{shape_in}
-use Rattle.logical_types.specs.Shapes.{Shape, float64, float32, decimals, days, times, timestamps, place_in, storage_in}
+use Rattle.logical_types.specs.Shapes.{Shape, float64, float32, decimals, days, times, timestamps, place_in, storage_in, stored_as}
 use Rattle.logical_types.specs.declared.decimals.places.DecimalPlace.{DecimalPlace}
 use Rattle.logical_types.specs.declared.decimals.places.DecimalPlace.TheVariants.{At, Behind, BelowAll, AboveAll}
+use Rattle.logical_types.specs.declared.extensions.StorageType.{StorageType}
+use Rattle.logical_types.specs.declared.extensions.StorageType.TheVariants.{I32, I64, Bytes}
 use Rattle.filter_sql.specs.declared.print.Level.{Level}
 use Rattle.vortex_filter.specs.Checking.{Test, tests, HoldsStrings, IsOfType, AllFit, FitsColumns}
 use Rattle.vortex_filter.specs.CheckSteps.{holds_strings}
 use Rattle.filter_sql.specs.ColumnNames.{ColumnTree, column_named, column_there, typed_place, or_numbered, named_place}
 use Rattle.vortex_filter.specs.Formula.{Formula, negation, null_test, prefix_test}
 use Rattle.filter_sql.specs.Grammar.{IsPredicate, says_true, says_false, says_null, on_column, prefix_call, IsFilter, predicate, group, not_filter, one_operand, and_filter, one_conjunction, or_filter}
-use Rattle.vortex_filter.specs.Literals.{LiteralTree, null_literal, truth_literal, number_literal, text_literal, bytes_literal, bytes_cell, bytes_in, decimal_at, integer_at, integer_in, logical_cell, null_cell, number_cell, number_in, number_of_shape, position_of, text_cell, text_in, text_of_shape, truth_cell, truth_in, written_value}
+use Rattle.vortex_filter.specs.Literals.{LiteralTree, null_literal, truth_literal, number_literal, text_literal, bytes_literal, bytes_cell, bytes_in, decimal_at, integer_at, integer_in, logical_cell, null_cell, number_cell, number_in, number_of_shape, position_of, storage_content, text_cell, text_in, text_of_shape, truth_cell, truth_in, written_value}
 use Rattle.vortex_filter.specs.Positions.{PositionTree, exactly, just_above, lacking, comparison_of, member_among, prefix_of, range_of}
 use Rattle.filter_sql.specs.Literals.{Condition, compared, missing, listed, between, begun, denied, formula_in, positions_of}
 use Rattle.filter_sql.specs.Parsing.{types_of, AllOrdered}
@@ -33,84 +36,117 @@ as_nullable_fits : (t : TypeTree) → Same t (as_nullable t)
 as_nullable_fits (extension_type id metadata t) = ap (extension_type id metadata) (as_nullable_fits t)
 as_nullable_fits _ = refl
 
-fits_as : (t : TypeTree) (p q : PositionTree) → Some p ≡ Some q → CellFits t p → CellFits t q
-fits_as t p q e fits = let same : p ≡ q = cc in subst (CellFits t) same fits
+-- a literal that stands at a cell or above one, stands at one of the type, without a variant's child
+abbrev IsSaidIn : TypeTree → PositionTree → Type 0
+IsSaidIn t (exactly x) = IsOfType t x × HasNoTyped x.content
+IsSaidIn t (just_above x) = IsOfType t x × HasNoTyped x.content
+IsSaidIn t (lacking o) = Unit {0}
 
-truth_fits : (t : TypeTree) (b : Bool) (p : PositionTree) → truth_in t b ≡ Some p → CellFits t p
-truth_fits (bool_type n) b p e = fits_as (bool_type n) (exactly (truth_cell b)) p e refl
-truth_fits _ b p e = absurd cc
+stored_untyped : (k : StorageType) (z : ℤ) → HasNoTyped (storage_content k z)
+stored_untyped I32 z = tt
+stored_untyped I64 z = tt
+stored_untyped Bytes z = tt
 
-number_by : (k : PType) (n : Nullability) (z : ℤ) (inside : Bool) → CellFits (integer_type k n) (cond inside (exactly (number_cell k z)) (lacking (int_cmp (pos 0) z)))
-number_by k n z true = refl
+said_as : (t : TypeTree) (p q : PositionTree) → Some p ≡ Some q → IsSaidIn t p → IsSaidIn t q
+said_as t p q e fits = let same : p ≡ q = cc in subst (IsSaidIn t) same fits
+
+truth_said : (t : TypeTree) (b : Bool) (p : PositionTree) → truth_in t b ≡ Some p → IsSaidIn t p
+truth_said (bool_type n) b p e = said_as (bool_type n) (exactly (truth_cell b)) p e (refl, tt)
+truth_said _ b p e = absurd cc
+
+number_by : (k : PType) (n : Nullability) (z : ℤ) (inside : Bool) → IsSaidIn (integer_type k n) (cond inside (exactly (number_cell k z)) (lacking (int_cmp (pos 0) z)))
+number_by k n z true = (refl, tt)
 number_by k n z false = tt
 
-gap_by : (k : PType) (n : Nullability) (z : ℤ) (inside : Bool) → CellFits (integer_type k n) (cond inside (just_above (number_cell k z)) (lacking (int_cmp (pos 0) z)))
-gap_by k n z true = refl
+gap_by : (k : PType) (n : Nullability) (z : ℤ) (inside : Bool) → IsSaidIn (integer_type k n) (cond inside (just_above (number_cell k z)) (lacking (int_cmp (pos 0) z)))
+gap_by k n z true = (refl, tt)
 gap_by k n z false = tt
 
-integer_fits : (k : PType) (n : Nullability) (d : DecimalPlace) → CellFits (integer_type k n) (integer_at k d)
-integer_fits k n (At z) = number_by k n z (in_range k z)
-integer_fits k n (Behind z) = gap_by k n z (in_range k z && in_range k (z +ℤ pos 1))
-integer_fits k n BelowAll = tt
-integer_fits k n AboveAll = tt
+integer_said : (k : PType) (n : Nullability) (d : DecimalPlace) → IsSaidIn (integer_type k n) (integer_at k d)
+integer_said k n (At z) = number_by k n z (in_range k z)
+integer_said k n (Behind z) = gap_by k n z (in_range k z && in_range k (z +ℤ pos 1))
+integer_said k n BelowAll = tt
+integer_said k n AboveAll = tt
 
-mapped_fits : {X : Type 0} (t : TypeTree) (f : X → PositionTree) (o : Option X) (p : PositionTree) → ((x : X) → CellFits t (f x)) → option_map f o ≡ Some p → CellFits t p
-mapped_fits t f None p h e = absurd cc
-mapped_fits t f (Some x) p h e = fits_as t (f x) p e (h x)
+mapped_said : {X : Type 0} (t : TypeTree) (f : X → PositionTree) (o : Option X) (p : PositionTree) → ((x : X) → IsSaidIn t (f x)) → option_map f o ≡ Some p → IsSaidIn t p
+mapped_said t f None p h e = absurd cc
+mapped_said t f (Some x) p h e = said_as t (f x) p e (h x)
 
-integers_fit : (k : PType) (n : Nullability) (word : List ℕ) (p : PositionTree) → integer_in k word ≡ Some p → CellFits (integer_type k n) p
-integers_fit k n word p e = mapped_fits (integer_type k n) (integer_at k) (place_in 38 0 word) p (integer_fits k n) e
+integers_said : (k : PType) (n : Nullability) (word : List ℕ) (p : PositionTree) → integer_in k word ≡ Some p → IsSaidIn (integer_type k n) p
+integers_said k n word p e = mapped_said (integer_type k n) (integer_at k) (place_in 38 0 word) p (integer_said k n) e
 
-written_fits : (t : TypeTree) (s : Shape) (word : List ℕ) (p : PositionTree) → written_value t s word ≡ Some p → CellFits t p
-written_fits t s word p e = mapped_fits t (λ (z : ℤ). exactly (logical_cell t s z)) (storage_in s word) p (λ z. refl) e
+written_said : (t : TypeTree) (s : Shape) (word : List ℕ) (p : PositionTree) → written_value t s word ≡ Some p → IsSaidIn t p
+written_said t s word p e = mapped_said t (λ (z : ℤ). exactly (logical_cell t s z)) (storage_in s word) p (λ z. (refl, stored_untyped (stored_as s) z)) e
 
-decimal_fits : (t : TypeTree) (s : Shape) (d : DecimalPlace) → CellFits t (decimal_at t s d)
-decimal_fits t s (At z) = refl
-decimal_fits t s (Behind z) = refl
-decimal_fits t s BelowAll = tt
-decimal_fits t s AboveAll = tt
+decimal_said : (t : TypeTree) (s : Shape) (d : DecimalPlace) → IsSaidIn t (decimal_at t s d)
+decimal_said t s (At z) = (refl, stored_untyped (stored_as s) z)
+decimal_said t s (Behind z) = (refl, stored_untyped (stored_as s) z)
+decimal_said t s BelowAll = tt
+decimal_said t s AboveAll = tt
 
-number_shaped : (t : TypeTree) (s : Shape) (word : List ℕ) (p : PositionTree) → number_of_shape t s word ≡ Some p → CellFits t p
-number_shaped t float64 word p e = written_fits t float64 word p e
-number_shaped t float32 word p e = written_fits t float32 word p e
-number_shaped t (decimals precision scale) word p e = mapped_fits t (decimal_at t (decimals precision scale)) (place_in precision scale word) p (decimal_fits t (decimals precision scale)) e
+number_shaped : (t : TypeTree) (s : Shape) (word : List ℕ) (p : PositionTree) → number_of_shape t s word ≡ Some p → IsSaidIn t p
+number_shaped t float64 word p e = written_said t float64 word p e
+number_shaped t float32 word p e = written_said t float32 word p e
+number_shaped t (decimals precision scale) word p e = mapped_said t (decimal_at t (decimals precision scale)) (place_in precision scale word) p (decimal_said t (decimals precision scale)) e
 number_shaped t days word p e = absurd cc
 number_shaped t (times unit) word p e = absurd cc
 number_shaped t (timestamps unit zoned) word p e = absurd cc
 
-text_shaped : (t : TypeTree) (s : Shape) (word : List ℕ) (p : PositionTree) → text_of_shape t s word ≡ Some p → CellFits t p
+text_shaped : (t : TypeTree) (s : Shape) (word : List ℕ) (p : PositionTree) → text_of_shape t s word ≡ Some p → IsSaidIn t p
 text_shaped t float64 word p e = number_shaped t float64 word p e
 text_shaped t float32 word p e = number_shaped t float32 word p e
 text_shaped t (decimals precision scale) word p e = number_shaped t (decimals precision scale) word p e
-text_shaped t days word p e = written_fits t days word p e
-text_shaped t (times unit) word p e = written_fits t (times unit) word p e
-text_shaped t (timestamps unit zoned) word p e = written_fits t (timestamps unit zoned) word p e
+text_shaped t days word p e = written_said t days word p e
+text_shaped t (times unit) word p e = written_said t (times unit) word p e
+text_shaped t (timestamps unit zoned) word p e = written_said t (timestamps unit zoned) word p e
 
-number_fits : (t : TypeTree) (word : List ℕ) (p : PositionTree) → number_in t word ≡ Some p → CellFits t p
-number_fits (integer_type k n) word p e = integers_fit k n word p e
-number_fits (extension_type id m u) word p e =
+number_said : (t : TypeTree) (word : List ℕ) (p : PositionTree) → number_in t word ≡ Some p → IsSaidIn t p
+number_said (integer_type k n) word p e = integers_said k n word p e
+number_said (extension_type id m u) word p e =
     let a = bind_some (shape_in (extension_type id m u)) (λ (s : Shape). number_of_shape (extension_type id m u) s word) p e in
     number_shaped (extension_type id m u) a.0 word p a.2
-number_fits _ word p e = absurd cc
+number_said _ word p e = absurd cc
 
-text_fits : (t : TypeTree) (bs : List ℕ) (p : PositionTree) → text_in t bs ≡ Some p → CellFits t p
-text_fits (utf8_type n) bs p e = fits_as (utf8_type n) (exactly (text_cell bs)) p e refl
-text_fits (integer_type k n) bs p e = integers_fit k n bs p e
-text_fits (extension_type id m u) bs p e =
+text_said : (t : TypeTree) (bs : List ℕ) (p : PositionTree) → text_in t bs ≡ Some p → IsSaidIn t p
+text_said (utf8_type n) bs p e = said_as (utf8_type n) (exactly (text_cell bs)) p e (refl, tt)
+text_said (integer_type k n) bs p e = integers_said k n bs p e
+text_said (extension_type id m u) bs p e =
     let a = bind_some (shape_in (extension_type id m u)) (λ (s : Shape). text_of_shape (extension_type id m u) s bs) p e in
     text_shaped (extension_type id m u) a.0 bs p a.2
-text_fits _ bs p e = absurd cc
+text_said _ bs p e = absurd cc
 
-bytes_fit : (t : TypeTree) (bs : List ℕ) (p : PositionTree) → bytes_in t bs ≡ Some p → CellFits t p
-bytes_fit (binary_type n) bs p e = fits_as (binary_type n) (exactly (bytes_cell bs)) p e refl
-bytes_fit _ bs p e = absurd cc
+bytes_said : (t : TypeTree) (bs : List ℕ) (p : PositionTree) → bytes_in t bs ≡ Some p → IsSaidIn t p
+bytes_said (binary_type n) bs p e = said_as (binary_type n) (exactly (bytes_cell bs)) p e (refl, tt)
+bytes_said _ bs p e = absurd cc
+
+literal_said : (t : TypeTree) (l : LiteralTree) (p : PositionTree) → position_of t l ≡ Some p → IsSaidIn t p
+literal_said t null_literal p e = said_as t (exactly (null_cell t)) p e (as_nullable_fits t, tt)
+literal_said t (truth_literal b) p e = truth_said t b p e
+literal_said t (number_literal word) p e = number_said t word p e
+literal_said t (text_literal bs) p e = text_said t bs p e
+literal_said t (bytes_literal bs) p e = bytes_said t bs p e
+
+said_fits : (t : TypeTree) (p : PositionTree) → IsSaidIn t p → CellFits t p
+said_fits t (exactly x) said = said.0
+said_fits t (just_above x) said = said.0
+said_fits t (lacking o) said = tt
 
 pub literal_fits : (t : TypeTree) (l : LiteralTree) (p : PositionTree) → position_of t l ≡ Some p → CellFits t p
-literal_fits t null_literal p e = fits_as t (exactly (null_cell t)) p e (as_nullable_fits t)
-literal_fits t (truth_literal b) p e = truth_fits t b p e
-literal_fits t (number_literal word) p e = number_fits t word p e
-literal_fits t (text_literal bs) p e = text_fits t bs p e
-literal_fits t (bytes_literal bs) p e = bytes_fit t bs p e
+literal_fits t l p e = said_fits t p (literal_said t l p e)
+
+-- no variant's child stands in the cell
+abbrev pub IsUntyped : PositionTree → Type 0
+IsUntyped (exactly x) = HasNoTyped x.content
+IsUntyped (just_above x) = HasNoTyped x.content
+IsUntyped (lacking o) = Unit {0}
+
+said_untyped : (t : TypeTree) (p : PositionTree) → IsSaidIn t p → IsUntyped p
+said_untyped t (exactly x) said = said.1
+said_untyped t (just_above x) said = said.1
+said_untyped t (lacking o) said = tt
+
+pub literal_untyped : (t : TypeTree) (l : LiteralTree) (p : PositionTree) → position_of t l ≡ Some p → IsUntyped p
+literal_untyped t l p e = said_untyped t p (literal_said t l p e)
 
 literals_fit : (t : TypeTree) (ls : List LiteralTree) (ps : List PositionTree) → positions_of t ls ≡ Some ps → CellsFit t ps
 literals_fit t [] ps e = let same : [] ≡ ps = cc in subst (CellsFit t) same tt

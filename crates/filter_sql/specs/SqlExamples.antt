@@ -8,6 +8,7 @@ use Rattle.vortex_dtype.specs.declared.ptype.PType.TheVariants.{I32, U8}
 use Rattle.vortex_cells.specs.Cells.{Cell}
 use Rattle.vortex_value.specs.Values.Content.{Content, null, whole, text, string}
 use Rattle.vortex_filter.specs.declared.operator.CompareOperator.TheVariants.{NotEq, Gte, Lt, Eq}
+use Rattle.logical_types.specs.Shapes.{place_in}
 use Rattle.filter_sql.specs.declared.lex.LexError.TheVariants.{BadText}
 use Rattle.filter_sql.specs.declared.error.Expected.TheVariants as expects
 use Rattle.filter_sql.specs.declared.parsing.errors.Cause.TheVariants as causes
@@ -112,6 +113,7 @@ pub conditions :
     × (of_byte (listed (number_literal (codes "300") ∷ [])) ≡ Some (both (null_test 0) (constant Unknown)))
     × (of_byte (between (number_literal (codes "0")) (number_literal (codes "300"))) ≡ Some (both (comparison 0 Gte (byte 0)) (either (negation (null_test 0)) (constant Unknown))))
     × (of_byte (compared Eq (text_literal [])) ≡ None)
+unfolding place_in
 conditions = (refl, refl, refl, refl, refl)
 
 -- Mistakes, by how many tokens are left.
@@ -121,7 +123,7 @@ one_column = record { name = codes "a"; typed = integer_type I32 Nullable } ∷ 
 
 -- what the proofs compute by
 unfoldable on_mistakes : ⊤
-unfolding after_closing after_comma after_keyword after_opening and_from cells_at cells_mistake column_named comparison_at condition_at condition_mistake conjunction_mistake conjunction_of constant_at disjunction_mistake disjunction_of escape_at escape_mistake filter_mistake group_mistake group_of like_at like_mistake literal_mistake literal_of members_at members_mistake mistake_at mistakes more_cells more_mistake name_at numbered_place operand_from operand_mistake operand_of operator_at or_from pattern_prefix position_at predicate_at predicate_mistake read_at reads string_at test_at test_mistake text_prefix token_position
+unfolding after_closing after_comma after_keyword after_opening and_from cells_at cells_mistake column_named comparison_at condition_at condition_mistake conjunction_mistake conjunction_of constant_at disjunction_mistake disjunction_of escape_at escape_mistake filter_mistake group_mistake group_of like_at like_mistake literal_mistake literal_of members_at members_mistake mistake_at mistakes more_cells more_mistake name_at numbered_place operand_from operand_mistake operand_of operator_at or_from pattern_prefix place_in position_at predicate_at predicate_mistake read_at reads string_at test_at test_mistake text_prefix token_position
 on_mistakes = tt
 
 -- a 3

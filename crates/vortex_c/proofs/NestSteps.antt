@@ -1,5 +1,5 @@
 -- How deep the encoding of a filter nests: a filter that words are has one, at the depth that goes with theirs.
-use Rattle.std.proofs.Common.{◌≡◌, ◌∙◌, ℕ, ℤ, zero, suc, ◌^◌, ◌<◌, ◌≤◌, Bool, true, false, cond, Ordering, List, [], ◌∷◌, ◌++◌, length, Option, Some, None, arith, ap, subst, sym, length-append, length-drop}
+use Rattle.std.proofs.Common.{◌≡◌, ◌∙◌, ℕ, zero, suc, ◌^◌, ◌<◌, ◌≤◌, Bool, true, false, List, [], ◌∷◌, ◌++◌, length, Option, Some, None, arith, ap, subst, sym, length-append, length-drop}
 use Rattle.std.specs.Char.{is_ascii_whitespace}
 use Rattle.std.specs.List.{AllByRecursion, prefix_len}
 use Rattle.std.specs.Option.{option_map}
@@ -11,15 +11,12 @@ use Rattle.arrow_columns.specs.declared.kinds.Kind.{Kind}
 use Rattle.arrow_columns.specs.declared.kinds.Kind.TheVariants.{Binary, Boolean, Integer, LargeBinary, LargeUtf8, Null, Utf8}
 use Rattle.column_cells.specs.Types.{type_at}
 use Rattle.vortex_dtype.specs.TypeTree.{binary_type, bool_type, erase, integer_type, null_type, TypeTree, utf8_type}
-use Rattle.vortex_dtype.specs.declared.ptype.PType.{PType}
-use Rattle.vortex_pvalue.specs.Numbers.{in_range}
-use Rattle.vortex_value.specs.Equality.{HasNoTyped}
 use Rattle.vortex_cells.specs.Cells.{Cell}
 use Rattle.vortex_filter.specs.declared.operator.CompareOperator.{CompareOperator}
 use Rattle.vortex_filter.specs.declared.operator.CompareOperator.TheVariants.{Eq, NotEq, Gt, Gte, Lt, Lte}
 use Rattle.vortex_filter.specs.Formula.{both, comparison, constant, either, Formula, membership, negation, null_test, prefix_test, range}
 use Rattle.vortex_filter.specs.CheckSteps.{holds_strings}
-use Rattle.vortex_filter.specs.Literals.{bytes_cell, bytes_in, bytes_literal, LiteralTree, null_cell, null_literal, number_cell, number_in, number_literal, number_position, position_of, text_cell, text_in, text_literal, truth_cell, truth_in, truth_literal}
+use Rattle.vortex_filter.specs.Literals.{LiteralTree, position_of, text_literal}
 use Rattle.vortex_filter.specs.Operators.{holds}
 use Rattle.vortex_filter.specs.Positions.{cells_of, comparison_above, comparison_of, exactly, for_values, just_above, lacking, member_among, member_of, PositionTree, prefix_of, range_of}
 use Rattle.vortex_filter.proofs.PositionLaws.{CellFits}
@@ -32,7 +29,7 @@ use Rattle.filter_sql.specs.Parsing.{IsSqlWithin, tokens_in, types_of}
 use Rattle.filter_sql.specs.Texts.{AreItemsOf, Item, Leads, trimmed}
 use Rattle.filter_sql.specs.Tokens.{closing, comma, TokenTree}
 use Rattle.filter_sql.proofs.ConditionSteps.{bind_some, guard_some, map_some, some_members, stand_parts}
-use Rattle.filter_sql.proofs.FitLaws.{literal_fits}
+use Rattle.filter_sql.proofs.FitLaws.{IsUntyped, literal_fits, literal_untyped}
 use Rattle.filter_sql.proofs.NestLaws.{height, whole-low}
 use Rattle.filter_sql.proofs.Runs.{front_again}
 use Rattle.filter_sql.proofs.Taken.{token_shorter}
@@ -92,49 +89,13 @@ IsPlainSaid (exactly x) = IsPlainCell x
 IsPlainSaid (just_above x) = IsPlainCell x
 IsPlainSaid (lacking o) = Unit {0}
 
--- no variant's child stands in it
-abbrev IsUntypedSaid : PositionTree → Type 0
-IsUntypedSaid (exactly x) = HasNoTyped x.content
-IsUntypedSaid (just_above x) = HasNoTyped x.content
-IsUntypedSaid (lacking o) = Unit {0}
-
-untyped-as : (p q : PositionTree) → Some p ≡ Some q → IsUntypedSaid p → IsUntypedSaid q
-untyped-as p q e h = let same : p ≡ q = cc in subst IsUntypedSaid same h
-
-truth-untyped : (t : TypeTree) (b : Bool) (p : PositionTree) → truth_in t b ≡ Some p → IsUntypedSaid p
-truth-untyped (bool_type n) b p e = untyped-as (exactly (truth_cell b)) p e tt
-truth-untyped _ b p e = absurd cc
-
-place-untyped : (k : PType) (z : ℤ) (o : Ordering) (inside : Bool) → IsUntypedSaid (cond inside (exactly (number_cell k z)) (lacking o))
-place-untyped k z o true = tt
-place-untyped k z o false = tt
-
-number-untyped : (t : TypeTree) (z : ℤ) (p : PositionTree) → number_in t z ≡ Some p → IsUntypedSaid p
-number-untyped (integer_type k n) z p e = untyped-as (number_position k z) p e (place-untyped k z _ (in_range k z))
-number-untyped _ z p e = absurd cc
-
-text-untyped : (t : TypeTree) (bs : List ℕ) (p : PositionTree) → text_in t bs ≡ Some p → IsUntypedSaid p
-text-untyped (utf8_type n) bs p e = untyped-as (exactly (text_cell bs)) p e tt
-text-untyped _ bs p e = absurd cc
-
-bytes-untyped : (t : TypeTree) (bs : List ℕ) (p : PositionTree) → bytes_in t bs ≡ Some p → IsUntypedSaid p
-bytes-untyped (binary_type n) bs p e = untyped-as (exactly (bytes_cell bs)) p e tt
-bytes-untyped _ bs p e = absurd cc
-
-literal-untyped : (t : TypeTree) (l : LiteralTree) (p : PositionTree) → position_of t l ≡ Some p → IsUntypedSaid p
-literal-untyped t null_literal p e = untyped-as (exactly (null_cell t)) p e tt
-literal-untyped t (truth_literal b) p e = truth-untyped t b p e
-literal-untyped t (number_literal z) p e = number-untyped t z p e
-literal-untyped t (text_literal bs) p e = text-untyped t bs p e
-literal-untyped t (bytes_literal bs) p e = bytes-untyped t bs p e
-
-stands-plain : (t : TypeTree) (p : PositionTree) → IsPlain t → CellFits t p → IsUntypedSaid p → IsPlainSaid p
+stands-plain : (t : TypeTree) (p : PositionTree) → IsPlain t → CellFits t p → IsUntyped p → IsPlainSaid p
 stands-plain t (exactly x) h fits untyped = record { plain = plain-back x.typed (subst IsPlain fits (plain-erased t h)); untyped = untyped }
 stands-plain t (just_above x) h fits untyped = record { plain = plain-back x.typed (subst IsPlain fits (plain-erased t h)); untyped = untyped }
 stands-plain t (lacking o) h fits untyped = tt
 
 literal-plain : (t : TypeTree) (l : LiteralTree) (p : PositionTree) → IsPlain t → position_of t l ≡ Some p → IsPlainSaid p
-literal-plain t l p h e = stands-plain t p h (literal_fits t l p e) (literal-untyped t l p e)
+literal-plain t l p h e = stands-plain t p h (literal_fits t l p e) (literal_untyped t l p e)
 
 -- the cells of literals are of such types, and no more than there are tokens
 record AreFew (ts : List TokenTree) (xs : List Cell) : Type 0 where
