@@ -141,7 +141,7 @@ fn answer_of(alloc: Global, call: Call, given: &FilterInputs) -> FilterResult {
 
 /// A filter that was made, as SQL text.
 fn made_answer(alloc: Global, filter: Filter) -> FilterResult {
-    let answer = sql_answer(alloc, &Sql::of(&filter, &[]));
+    let answer = sql_answer(alloc, &filter, &[]);
     drop(filter);
     answer
 }
@@ -161,8 +161,16 @@ fn refused(refusal: FilterError) -> FilterResult {
     }
 }
 
+/// A filter as SQL text, with the names of its columns.
+fn sql_answer(alloc: Global, filter: &Filter, columns: &[Column]) -> FilterResult {
+    match Sql::of(alloc, filter, columns) {
+        Ok(sql) => shown_answer(alloc, &sql),
+        Err(_) => Err(VortexError::OutOfMemory),
+    }
+}
+
 /// SQL text, as it is.
-fn sql_answer<T: Display>(alloc: Global, shown: &T) -> FilterResult {
+fn shown_answer<T: Display>(alloc: Global, shown: &T) -> FilterResult {
     match format!(in alloc; "{shown}") {
         Ok(text) => Ok(FilterAnswer::Sql(text)),
         Err(_) => Err(VortexError::OutOfMemory),
@@ -179,7 +187,7 @@ fn parse(alloc: Global, given: &FilterInputs) -> FilterResult {
 
 /// A filter that was read, as SQL text with the names of its columns.
 fn parsed_answer(alloc: Global, filter: Filter, columns: &[Column]) -> FilterResult {
-    let answer = sql_answer(alloc, &Sql::of(&filter, columns));
+    let answer = sql_answer(alloc, &filter, columns);
     drop(filter);
     answer
 }

@@ -19,4 +19,5 @@ pub mod Taken
 pub mod StringSteps
 pub mod TestSteps
 pub mod TextProofs
+pub mod WordLaws
 pub mod Words

@@ -16,6 +16,7 @@ use Rattle.filter_sql.specs.declared.token.Placed.{Placed}
 use Rattle.filter_sql.specs.ColumnNames.{ColumnTree}
 use Rattle.vortex_filter.specs.Formula.{Formula, formula}
 use Rattle.filter_sql.specs.Parsing.{AllOrdered, types_of, IsSqlWithin, IsNoSqlWithin, IsReadable, ReadsAs, RefusesSqlWithin, depth, tokens_in}
+use Rattle.filter_sql.specs.LiteralWords.{AreWordsOf, LiteralWords}
 use Rattle.filter_sql.specs.Printing.{tokens_of}
 use Rattle.vortex_filter.specs.declared.filter.Filter.{Filter}
 use Rattle.filter_sql.specs.Faults.{IsPlaced}
@@ -26,7 +27,7 @@ use Rattle.filter_sql.specs.Texts.{Item, AreItemsOf, EndsAt, EndsFor, items}
 use Rattle.filter_sql.specs.Tokens.{TokenTree, trees, token_tree}
 use Rattle.vortex_filter.specs.Checking.{FitsColumns}
 use Rattle.filter_sql.proofs.FitLaws.{filter_fits}
-use Rattle.filter_sql.proofs.PrintLaws.{IntegersThere, text_means}
+use Rattle.filter_sql.proofs.PrintLaws.{LiteralLaws, text_means}
 use Rattle.filter_sql.proofs.ReadLaws.{filter_is, filter_read, no_filter}
 
 -- the offset of each token lies in the text
@@ -202,9 +203,9 @@ read_back n columns ps ending f whole read (Ok filter) given refused = same_some
 read_back n columns ps ending f whole read (Err e) given refused = only_memory (items ps) ending (filter_at columns n (trees ps)) (filter_mistake columns n (trees ps)) f e whole read refused
 
 -- what is printed is read again
-pub result_reads_back : IntegersThere → (n : ℕ) (columns : List ColumnTree) (names : List (List ℕ)) (ps : List Placed) (ending : Ending) (f : Formula) → IsReadable columns names f → depth f ≤ n → (trees ps ≡ tokens_of names f) × (ending.fault ≡ None) → (result : Result Filter ParseError) → Given n columns ps ending result → Refused n columns ps ending result → ReadsAs f result
-result_reads_back there n columns names ps ending f readable deep are result given refused =
-    read_back n columns ps ending f are.1 (ap (filter_at columns n) are.0 ∙ filter_read columns n (tokens_of names f) f (text_means there columns names f n readable deep)) result given refused
+pub result_reads_back : LiteralLaws → (n : ℕ) (columns : List ColumnTree) (names : List (List ℕ)) (ps : List Placed) (ending : Ending) (ws : LiteralWords) (f : Formula) → AreWordsOf ws f → IsReadable columns names f → depth f ≤ n → (trees ps ≡ tokens_of names ws f) × (ending.fault ≡ None) → (result : Result Filter ParseError) → Given n columns ps ending result → Refused n columns ps ending result → ReadsAs f result
+result_reads_back laws n columns names ps ending ws f words readable deep are result given refused =
+    read_back n columns ps ending f are.1 (ap (filter_at columns n) are.0 ∙ filter_read columns n (tokens_of names ws f) f (text_means laws columns names ws f n words readable deep)) result given refused
 
 -- what is read fits the columns, where their types have no variants
 pub result_fits : (n : ℕ) (columns : List ColumnTree) (ps : List Placed) (ending : Ending) → AllOrdered columns → (result : Result Filter ParseError) → Given n columns ps ending result → IfOk result (λ filter. FitsColumns (types_of columns) (formula filter))

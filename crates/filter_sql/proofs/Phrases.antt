@@ -1,5 +1,5 @@
 -- The text that is printed part by part is the text of the tokens.
-use Rattle.std.proofs.Common.{◌≡◌, ℕ, pos, negsuc, Bool, true, false, List, [], ◌∷◌, ◌++◌, codes, refl, sym, ap, ◌∙◌, append_assoc, append-nil}
+use Rattle.std.proofs.Common.{◌≡◌, ℕ, pos, negsuc, Bool, true, false, List, [], ◌∷◌, ◌++◌, Option, Some, None, drop, codes, refl, sym, ap, ◌∙◌, append_assoc, append-nil}
 use Rattle.std.specs.List.{list_any}
 use Rattle.vortex_cells.specs.Cells.{Cell}
 use Rattle.vortex_value.specs.Values.Content.{Content, null, truth, whole, text, string, sequence, tagged, typed}
@@ -11,6 +11,7 @@ use Rattle.filter_sql.specs.declared.token.Keyword.TheVariants as keywords
 use Rattle.vortex_filter.specs.declared.truth.Truth.TheVariants as truths
 use Rattle.vortex_filter.specs.Formula.{Formula, constant, comparison, null_test, membership, range, prefix_test, both, either, negation}
 use Rattle.filter_sql.specs.Tokens.{TokenTree, keyword_token, string_token, operator_token, opening, closing, comma, canonical, gap, is_close_behind, is_opening, is_starts_with, keyword_text, quoted, spelling}
+use Rattle.filter_sql.specs.LiteralWords.{LiteralWords, WordTree, bare_word, first_word, quoted_word, words_behind}
 use Rattle.filter_sql.specs.Printing.{column_token, comparison_tokens, content_token, escape_tokens, grouped, groups_and, groups_or, is_special, like_tokens, printed_content, literal_token, literal_tokens, membership_tokens, null_test_tokens, prefix_pattern, prefix_tokens, range_tokens, starts_with_tokens, tokens_at}
 use Rattle.filter_sql.specs.Pieces.{comparison_text, group_text, like_text, literal_text, literals_text, membership_text, null_test_text, prefix_text, range_text, starts_with_text, text_at}
 
@@ -130,24 +131,36 @@ content_closed (sequence cs) = refl
 content_closed (tagged n c) = refl
 content_closed (typed t c) = refl
 
-comma_text : (y : Cell) (ys : List Cell) → canonical (comma ∷ (literal_tokens (y ∷ ys) ++ closing ∷ [])) ≡ codes ", " ++ canonical (literal_tokens (y ∷ ys) ++ closing ∷ [])
-comma_text y [] = rw (content_apart (printed_content y) comma) refl
-comma_text y (z ∷ zs) = rw (content_apart (printed_content y) comma) refl
+literal_apart : (w : Option WordTree) (x : Cell) (t : TokenTree) → is_close_behind (literal_token w x) t ≡ false
+literal_apart None x t = content_apart (printed_content x) t
+literal_apart (Some (bare_word word)) x t = refl
+literal_apart (Some (quoted_word word)) x t = refl
 
-opening_text : (x : Cell) (xs : List Cell) → canonical (opening ∷ (literal_tokens (x ∷ xs) ++ closing ∷ [])) ≡ codes "(" ++ canonical (literal_tokens (x ∷ xs) ++ closing ∷ [])
-opening_text x [] = refl
-opening_text x (y ∷ ys) = refl
+literal_closed : (w : Option WordTree) (x : Cell) → is_opening (literal_token w x) ≡ false
+literal_closed None x = content_closed (printed_content x)
+literal_closed (Some (bare_word word)) x = refl
+literal_closed (Some (quoted_word word)) x = refl
 
-closed_text : (x : Cell) (xs : List Cell) → canonical (literal_tokens (x ∷ xs) ++ closing ∷ []) ≡ literals_text (x ∷ xs) ++ codes ")"
-closed_text x [] = rw (content_closed (printed_content x)) (ap (λ (l : List ℕ). l ++ codes ")") (sym (append-nil (literal_text x))))
-closed_text x (y ∷ ys) =
-    let first : canonical (literal_tokens (x ∷ y ∷ ys) ++ closing ∷ []) ≡ literal_text x ++ canonical (comma ∷ (literal_tokens (y ∷ ys) ++ closing ∷ [])) = rw (content_closed (printed_content x)) refl in
-    let rest : canonical (comma ∷ (literal_tokens (y ∷ ys) ++ closing ∷ [])) ≡ codes ", " ++ (literals_text (y ∷ ys) ++ codes ")") = comma_text y ys ∙ ap (λ (l : List ℕ). codes ", " ++ l) (closed_text y ys) in
-    first ∙ ap (λ (l : List ℕ). literal_text x ++ l) rest ∙ sym (append_assoc (literal_text x) (codes ", " ++ literals_text (y ∷ ys)) (codes ")"))
+comma_text : (ws : LiteralWords) (y : Cell) (ys : List Cell) → canonical (comma ∷ (literal_tokens ws (y ∷ ys) ++ closing ∷ [])) ≡ codes ", " ++ canonical (literal_tokens ws (y ∷ ys) ++ closing ∷ [])
+comma_text ws y [] = rw (literal_apart (first_word ws) y comma) refl
+comma_text ws y (z ∷ zs) = rw (literal_apart (first_word ws) y comma) refl
 
-literals_printed : (xs : List Cell) → canonical (opening ∷ (literal_tokens xs ++ closing ∷ [])) ≡ codes "(" ++ (literals_text xs ++ codes ")")
-literals_printed [] = refl
-literals_printed (x ∷ xs) = opening_text x xs ∙ ap (λ (l : List ℕ). codes "(" ++ l) (closed_text x xs)
+opening_text : (ws : LiteralWords) (x : Cell) (xs : List Cell) → canonical (opening ∷ (literal_tokens ws (x ∷ xs) ++ closing ∷ [])) ≡ codes "(" ++ canonical (literal_tokens ws (x ∷ xs) ++ closing ∷ [])
+opening_text ws x [] = refl
+opening_text ws x (y ∷ ys) = refl
+
+closed_text : (ws : LiteralWords) (x : Cell) (xs : List Cell) → canonical (literal_tokens ws (x ∷ xs) ++ closing ∷ []) ≡ literals_text ws (x ∷ xs) ++ codes ")"
+closed_text ws x [] = rw (literal_closed (first_word ws) x) (ap (λ (l : List ℕ). l ++ codes ")") (sym (append-nil (literal_text (first_word ws) x))))
+closed_text ws x (y ∷ ys) =
+    let text : List ℕ = literal_text (first_word ws) x in
+    let more : LiteralWords = drop 1 ws in
+    let first : canonical (literal_tokens ws (x ∷ y ∷ ys) ++ closing ∷ []) ≡ text ++ canonical (comma ∷ (literal_tokens more (y ∷ ys) ++ closing ∷ [])) = rw (literal_closed (first_word ws) x) refl in
+    let rest : canonical (comma ∷ (literal_tokens more (y ∷ ys) ++ closing ∷ [])) ≡ codes ", " ++ (literals_text more (y ∷ ys) ++ codes ")") = comma_text more y ys ∙ ap (λ (l : List ℕ). codes ", " ++ l) (closed_text more y ys) in
+    first ∙ ap (λ (l : List ℕ). text ++ l) rest ∙ sym (append_assoc text (codes ", " ++ literals_text more (y ∷ ys)) (codes ")"))
+
+literals_printed : (ws : LiteralWords) (xs : List Cell) → canonical (opening ∷ (literal_tokens ws xs ++ closing ∷ [])) ≡ codes "(" ++ (literals_text ws xs ++ codes ")")
+literals_printed ws [] = refl
+literals_printed ws (x ∷ xs) = opening_text ws x xs ∙ ap (λ (l : List ℕ). codes "(" ++ l) (closed_text ws x xs)
 
 -- ---- tests of one column
 
@@ -155,34 +168,34 @@ module _ (names : List (List ℕ)) (k : ℕ) where
   column_phrase : (ts : List TokenTree) → is_opening (last_of (column_token names k) ts) ≡ false → IsPhrase (column_token names k ∷ ts)
   column_phrase ts closed = record { first = column_token names k; rest = ts; whole = refl; apart = λ t word. refl; closed = closed }
 
-  comparison_printed : (op : CompareOperator) (x : Cell) → IsPrinted (comparison_tokens names k op x) (comparison_text names k op x)
-  comparison_printed op x = record {
-    text = rw (content_apart (printed_content x) (operator_token op)) refl;
-    phrase = column_phrase (operator_token op ∷ literal_token x ∷ []) (content_closed (printed_content x));
+  comparison_printed : (ws : LiteralWords) (op : CompareOperator) (x : Cell) → IsPrinted (comparison_tokens names ws k op x) (comparison_text names ws k op x)
+  comparison_printed ws op x = record {
+    text = rw (literal_apart (first_word ws) x (operator_token op)) refl;
+    phrase = column_phrase (operator_token op ∷ literal_token (first_word ws) x ∷ []) (literal_closed (first_word ws) x);
   }
 
   null_test_printed : (negated : Bool) → IsPrinted (column_token names k ∷ null_test_tokens negated) (null_test_text names k negated)
   null_test_printed true = record { text = refl; phrase = column_phrase (null_test_tokens true) refl }
   null_test_printed false = record { text = refl; phrase = column_phrase (null_test_tokens false) refl }
 
-  membership_printed : (negated : Bool) (xs : List Cell) → IsPrinted (column_token names k ∷ membership_tokens negated xs) (membership_text names k negated xs)
-  membership_printed true xs = record {
-    text = rw (literals_printed xs) refl;
-    phrase = column_phrase (membership_tokens true xs) (ap is_opening (last_behind opening (literal_tokens xs) closing []));
+  membership_printed : (negated : Bool) (ws : LiteralWords) (xs : List Cell) → IsPrinted (column_token names k ∷ membership_tokens negated ws xs) (membership_text names ws k negated xs)
+  membership_printed true ws xs = record {
+    text = rw (literals_printed ws xs) refl;
+    phrase = column_phrase (membership_tokens true ws xs) (ap is_opening (last_behind opening (literal_tokens ws xs) closing []));
   }
-  membership_printed false xs = record {
-    text = rw (literals_printed xs) refl;
-    phrase = column_phrase (membership_tokens false xs) (ap is_opening (last_behind opening (literal_tokens xs) closing []));
+  membership_printed false ws xs = record {
+    text = rw (literals_printed ws xs) refl;
+    phrase = column_phrase (membership_tokens false ws xs) (ap is_opening (last_behind opening (literal_tokens ws xs) closing []));
   }
 
-  range_printed : (negated : Bool) (x y : Cell) → IsPrinted (column_token names k ∷ range_tokens negated x y) (range_text names k negated x y)
-  range_printed true x y = record {
-    text = rw (content_apart (printed_content x) (keyword_token keywords.Between), content_closed (printed_content x), content_apart (printed_content y) (keyword_token keywords.And)) refl;
-    phrase = column_phrase (range_tokens true x y) (content_closed (printed_content y));
+  range_printed : (negated : Bool) (ws : LiteralWords) (x y : Cell) → IsPrinted (column_token names k ∷ range_tokens negated ws x y) (range_text names ws k negated x y)
+  range_printed true ws x y = record {
+    text = rw (literal_apart (first_word ws) x (keyword_token keywords.Between), literal_closed (first_word ws) x, literal_apart (first_word (drop 1 ws)) y (keyword_token keywords.And)) refl;
+    phrase = column_phrase (range_tokens true ws x y) (literal_closed (first_word (drop 1 ws)) y);
   }
-  range_printed false x y = record {
-    text = rw (content_apart (printed_content x) (keyword_token keywords.Between), content_closed (printed_content x), content_apart (printed_content y) (keyword_token keywords.And)) refl;
-    phrase = column_phrase (range_tokens false x y) (content_closed (printed_content y));
+  range_printed false ws x y = record {
+    text = rw (literal_apart (first_word ws) x (keyword_token keywords.Between), literal_closed (first_word ws) x, literal_apart (first_word (drop 1 ws)) y (keyword_token keywords.And)) refl;
+    phrase = column_phrase (range_tokens false ws x y) (literal_closed (first_word (drop 1 ws)) y);
   }
 
   like_printed : (prefix : List ℕ) → IsPrinted (like_tokens (column_token names k) prefix) (like_text names k prefix)
@@ -198,48 +211,48 @@ module _ (names : List (List ℕ)) (k : ℕ) where
         phrase = column_phrase (keyword_token keywords.Like ∷ string_token (prefix_pattern prefix) ∷ escape_tokens prefix) (rw is refl);
       }
 
-  starts_with_printed : (c : Content) → IsPrinted (starts_with_tokens (column_token names k) c) (starts_with_text names k c)
-  starts_with_printed c = record {
-    text = rw (content_apart c comma, content_closed c) refl;
+  starts_with_printed : (w : Option WordTree) (x : Cell) → IsPrinted (starts_with_tokens (column_token names k) (literal_token w x)) (starts_with_text names k (literal_text w x))
+  starts_with_printed w x = record {
+    text = rw (literal_apart w x comma, literal_closed w x) refl;
     phrase = record {
       first = keyword_token keywords.StartsWith;
-      rest = opening ∷ column_token names k ∷ comma ∷ content_token c ∷ closing ∷ [];
+      rest = opening ∷ column_token names k ∷ comma ∷ literal_token w x ∷ closing ∷ [];
       whole = refl;
       apart = λ t word. refl;
       closed = refl;
     };
   }
 
-  prefix_printed : (c : Content) → IsPrinted (prefix_tokens (column_token names k) c) (prefix_text names k c)
-  prefix_printed null = starts_with_printed null
-  prefix_printed (truth b) = starts_with_printed (truth b)
-  prefix_printed (whole z) = starts_with_printed (whole z)
-  prefix_printed (text bs) = like_printed bs
-  prefix_printed (string bs) = starts_with_printed (string bs)
-  prefix_printed (sequence cs) = starts_with_printed (sequence cs)
-  prefix_printed (tagged n c) = starts_with_printed (tagged n c)
-  prefix_printed (typed t c) = starts_with_printed (typed t c)
+  prefix_printed : (w : Option WordTree) (x : Cell) (c : Content) → IsPrinted (prefix_tokens (column_token names k) (literal_token w x) c) (prefix_text names k (literal_text w x) c)
+  prefix_printed w x null = starts_with_printed w x
+  prefix_printed w x (truth b) = starts_with_printed w x
+  prefix_printed w x (whole z) = starts_with_printed w x
+  prefix_printed w x (text bs) = like_printed bs
+  prefix_printed w x (string bs) = starts_with_printed w x
+  prefix_printed w x (sequence cs) = starts_with_printed w x
+  prefix_printed w x (tagged n c) = starts_with_printed w x
+  prefix_printed w x (typed t c) = starts_with_printed w x
 
 -- ---- formulas
 
 -- the parts of a filter are printed as its tokens
-pub printed : (names : List (List ℕ)) (level : Level) (f : Formula) → IsPrinted (tokens_at names level f) (text_at names level f)
-printed names level (constant truths.True) = record { text = refl; phrase = record { first = keyword_token keywords.True; rest = []; whole = refl; apart = λ t word. refl; closed = refl } }
-printed names level (constant truths.False) = record { text = refl; phrase = record { first = keyword_token keywords.False; rest = []; whole = refl; apart = λ t word. refl; closed = refl } }
-printed names level (constant truths.Unknown) = record { text = refl; phrase = record { first = keyword_token keywords.Null; rest = []; whole = refl; apart = λ t word. refl; closed = refl } }
-printed names level (comparison k op x) = comparison_printed names k op x
-printed names level (null_test k) = null_test_printed names k false
-printed names level (membership k xs) = membership_printed names k false xs
-printed names level (range k x y) = range_printed names k false x y
-printed names level (prefix_test k x) = prefix_printed names k x.content
-printed names level (both p q) = grouped_printed (groups_and level) _ _ (joined_printed _ _ keywords.And _ _ refl (printed names levels.Not p) (printed names levels.And q))
-printed names level (either p q) = grouped_printed (groups_or level) _ _ (joined_printed _ _ keywords.Or _ _ refl (printed names levels.And p) (printed names levels.Or q))
-printed names level (negation (constant t)) = denied_printed _ _ (printed names levels.Not (constant t))
-printed names level (negation (comparison k op x)) = denied_printed _ _ (printed names levels.Not (comparison k op x))
-printed names level (negation (null_test k)) = null_test_printed names k true
-printed names level (negation (membership k xs)) = membership_printed names k true xs
-printed names level (negation (range k x y)) = range_printed names k true x y
-printed names level (negation (prefix_test k x)) = denied_printed _ _ (printed names levels.Not (prefix_test k x))
-printed names level (negation (both p q)) = denied_printed _ _ (printed names levels.Not (both p q))
-printed names level (negation (either p q)) = denied_printed _ _ (printed names levels.Not (either p q))
-printed names level (negation (negation p)) = denied_printed _ _ (printed names levels.Not (negation p))
+pub printed : (names : List (List ℕ)) (ws : LiteralWords) (level : Level) (f : Formula) → IsPrinted (tokens_at names ws level f) (text_at names ws level f)
+printed names ws level (constant truths.True) = record { text = refl; phrase = record { first = keyword_token keywords.True; rest = []; whole = refl; apart = λ t word. refl; closed = refl } }
+printed names ws level (constant truths.False) = record { text = refl; phrase = record { first = keyword_token keywords.False; rest = []; whole = refl; apart = λ t word. refl; closed = refl } }
+printed names ws level (constant truths.Unknown) = record { text = refl; phrase = record { first = keyword_token keywords.Null; rest = []; whole = refl; apart = λ t word. refl; closed = refl } }
+printed names ws level (comparison k op x) = comparison_printed names k ws op x
+printed names ws level (null_test k) = null_test_printed names k false
+printed names ws level (membership k xs) = membership_printed names k false ws xs
+printed names ws level (range k x y) = range_printed names k false ws x y
+printed names ws level (prefix_test k x) = prefix_printed names k (first_word ws) x x.content
+printed names ws level (both p q) = grouped_printed (groups_and level) _ _ (joined_printed _ _ keywords.And _ _ refl (printed names ws levels.Not p) (printed names (words_behind p ws) levels.And q))
+printed names ws level (either p q) = grouped_printed (groups_or level) _ _ (joined_printed _ _ keywords.Or _ _ refl (printed names ws levels.And p) (printed names (words_behind p ws) levels.Or q))
+printed names ws level (negation (constant t)) = denied_printed _ _ (printed names ws levels.Not (constant t))
+printed names ws level (negation (comparison k op x)) = denied_printed _ _ (printed names ws levels.Not (comparison k op x))
+printed names ws level (negation (null_test k)) = null_test_printed names k true
+printed names ws level (negation (membership k xs)) = membership_printed names k true ws xs
+printed names ws level (negation (range k x y)) = range_printed names k true ws x y
+printed names ws level (negation (prefix_test k x)) = denied_printed _ _ (printed names ws levels.Not (prefix_test k x))
+printed names ws level (negation (both p q)) = denied_printed _ _ (printed names ws levels.Not (both p q))
+printed names ws level (negation (either p q)) = denied_printed _ _ (printed names ws levels.Not (either p q))
+printed names ws level (negation (negation p)) = denied_printed _ _ (printed names ws levels.Not (negation p))

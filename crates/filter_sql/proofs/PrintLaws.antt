@@ -1,5 +1,5 @@
 -- A printed filter is in the grammar.
-use Rattle.std.proofs.Common.{◌≡◌, ◌⊎◌, inl, inr, ◌≤◌, ◌<◌, ◌-◌, ◌^◌, ◌==◌, ◌||◌, ◌&&◌, ℕ, suc, max, ℤ, pos, negsuc, Bool, true, false, cond, List, [], ◌∷◌, ◌++◌, Some, None, unsigned_abs, append-nil, refl, sym, ap, subst, ◌∙◌, arith}
+use Rattle.std.proofs.Common.{◌≡◌, ◌↔◌, ◌⊎◌, inl, inr, ◌≤◌, ◌<◌, ◌-◌, ◌^◌, ◌==◌, ◌||◌, ◌&&◌, ℕ, suc, max, ℤ, pos, negsuc, Bool, true, false, cond, List, [], ◌∷◌, ◌++◌, drop, Option, Some, None, option_and_then, unsigned_abs, append-nil, refl, sym, ap, subst, ◌∙◌, arith}
 use Rattle.std.specs.Prelude.{option_map}
 use Rattle.std.specs.List.{AllByRecursion, flat_map, list_any}
 use Rattle.std.specs.Fmt.{decimal}
@@ -11,15 +11,26 @@ use Rattle.std.proofs.lemmas.Bool.{ltb-true}
 use Rattle.std.proofs.lemmas.Fmt.{decimal_is_IsNumeral}
 use Rattle.std.proofs.lemmas.List.Concat.{flat_map-cons}
 use Rattle.std.proofs.lemmas.Str.{is_utf8-from_IsUtf8}
-use Rattle.vortex_dtype.specs.TypeTree.{TypeTree, bool_type, integer_type, utf8_type, binary_type}
+use Rattle.vortex_dtype.specs.TypeTree.{TypeTree, bool_type, integer_type, utf8_type, binary_type, extension_type}
+use Rattle.vortex_dtype.specs.declared.nullability.Nullability.TheVariants.{NonNullable}
 use Rattle.vortex_dtype.specs.declared.ptype.PType.{PType}
 use Rattle.vortex_dtype.specs.declared.ptype.PType.TheVariants.{U8, U16, U32, U64, I8, I16, I32, I64}
 use Rattle.vortex_pvalue.specs.Numbers.{InRange, in_range}
 use Rattle.vortex_pvalue.specs.RangeLaws.{in_range_true}
 use Rattle.vortex_cells.specs.Cells.{Cell}
+use Rattle.vortex_value.specs.Values.Content.{Content, null}
+use Rattle.logical_scalars.specs.Stored.{IsOfLogicalType, storage_tree}
+use Rattle.logical_scalars.specs.TypeShapes.{shape_in}
 use Rattle.logical_types.specs.Decimals.{decimal_text}
-use Rattle.logical_types.specs.Shapes.{place_in}
+use Rattle.logical_types.specs.Extensions.{storage_type_of}
+use Rattle.logical_types.specs.Places.{fine_scale, number_at}
+use Rattle.logical_types.specs.Shapes.{Shape, at_value_or, days, decimals, float32, float64, place_at, place_in, shape_of, storage_in, times, timestamps}
+use Rattle.logical_types.specs.Words.{Writes}
 use Rattle.logical_types.specs.declared.decimals.places.DecimalPlace.TheVariants as places
+use Rattle.logical_types.specs.declared.extensions.StorageType.{StorageType}
+use Rattle.logical_types.specs.declared.extensions.StorageType.TheVariants.{I32 as Four, I64 as Eight, Bytes as Sixteen}
+use Rattle.logical_types.specs.declared.logical.LogicalType.{LogicalType}
+use Rattle.logical_types.specs.declared.logical.LogicalType.TheVariants.{Float64, Float32, Decimal, Date, Time, Timestamp}
 use Rattle.filter_sql.specs.declared.print.Level.{Level}
 use Rattle.filter_sql.specs.declared.print.Level.TheVariants as levels
 use Rattle.filter_sql.specs.declared.token.Keyword.TheVariants as keywords
@@ -28,14 +39,19 @@ use Rattle.filter_sql.specs.ColumnNames.{ColumnTree}
 use Rattle.vortex_filter.specs.Formula.{Formula, constant, comparison, null_test, membership, range, prefix_test, both, either, negation}
 use Rattle.filter_sql.specs.Grammar.{AreLiterals, one_literal, more_literals, IsTest, in_nothing, in_literals, between_literals, like_pattern, like_escaped, IsCondition, compares, is_null, is_not_null, bare_test, not_test, IsPredicate, says_true, says_false, says_null, on_column, prefix_call, IsFilter, predicate, group, not_filter, one_operand, and_filter, one_conjunction, or_filter}
 use Rattle.vortex_filter.specs.CheckSteps.{holds_strings}
-use Rattle.vortex_filter.specs.Literals.{LiteralTree, integer_at, integer_in, null_literal, truth_literal, number_literal, text_literal, bytes_literal, null_cell, truth_cell, number_cell, text_cell, bytes_cell, position_of}
+use Rattle.vortex_filter.specs.Literals.{LiteralTree, decimal_at, integer_at, integer_in, logical_cell, number_of_shape, null_literal, truth_literal, number_literal, text_literal, bytes_literal, null_cell, truth_cell, number_cell, text_cell, bytes_cell, position_of, storage_content, text_of_shape}
 use Rattle.vortex_filter.specs.Positions.{PositionTree, exactly, lacking, cells_of, comparison_of, member_among, member_of}
 use Rattle.filter_sql.specs.Literals.{Condition, compared, missing, listed, between, begun, denied, formula_in, literal_of, pattern_prefix, positions_of, with_byte, is_wildcard}
 use Rattle.filter_sql.specs.Parsing.{IsValueLiteral, IsLiteral, IsFound, IsReadable, depth, depth_at}
-use Rattle.filter_sql.specs.Printing.{column_token, integer_text, literal_token, literal_tokens, is_special, escaped_byte, prefix_pattern, prefix_tokens, tokens_at, tokens_of}
+use Rattle.filter_sql.specs.Lexing.{is_number}
+use Rattle.filter_sql.specs.LiteralWords.{AreWordsOf, AreWordsOfEach, IsLogicalValue, IsWordOf, LiteralWords, WordTree, WritesCell, bare_word, first_word, is_numeric, quoted_word, words_behind}
+use Rattle.filter_sql.specs.Printing.{column_token, integer_text, literal_token, literal_tokens, is_special, escaped_byte, prefix_pattern, prefix_tokens, starts_with_tokens, tokens_at, tokens_of}
 use Rattle.filter_sql.specs.Tokens.{TokenTree, IsNumber, IsToken, AreTokens, keyword_token, string_token, opening, closing, comma}
 use Rattle.filter_sql.proofs.ConditionSteps.{begun_says, between_says, stand_more}
+use Rattle.filter_sql.proofs.Again.{both_true}
+use Rattle.filter_sql.proofs.Taken.{whole_number}
 use Rattle.filter_sql.proofs.TestSteps.{step_escape, step_plain}
+use Rattle.filter_sql.proofs.WordLaws.{TypesSay, shape_at, stored_by}
 
 tokens_append : (ts us : List TokenTree) → AreTokens ts → AreTokens us → AreTokens (ts ++ us)
 tokens_append [] us a b = b
@@ -43,12 +59,12 @@ tokens_append (t ∷ ts) us a b = (a.0, tokens_append ts us a.1 b)
 
 -- ---- literals
 
--- the token of a literal is one that stands there
-record Said (t : TypeTree) (x : Cell) : Type 0 where
+-- the token of a literal, by its word if it has one, is one that stands there
+record Said (t : TypeTree) (w : Option WordTree) (x : Cell) : Type 0 where
   literal : LiteralTree
-  says : literal_of (literal_token x) ≡ Some literal
+  says : literal_of (literal_token w x) ≡ Some literal
   stands : position_of t literal ≡ Some (exactly x)
-  token : IsToken (literal_token x)
+  token : IsToken (literal_token w x)
 
 passed_small : (k : PType) (n : ℕ) → in_range k (pos n) ≡ true → n < 2 ^ 64
 passed_small U8 n h = let small : n < 2 ^ 8 = ltb-true n (2 ^ 8) h in omega arith
@@ -95,44 +111,149 @@ integer_there there k z h =
     let small : unsigned_abs z < 2 ^ 64 = integer_small k z h in
     ap (integer_in k) (text_is z) ∙ ap (option_map (integer_at k)) (there z (omega (arith, small))) ∙ ap (λ (b : Bool). Some (cond b (exactly (number_cell k z)) (lacking (int_cmp (pos 0) z)))) h
 
-number_printed : IntegersThere → (k : PType) (z : ℤ) (n : _) → InRange k z → Said (integer_type k n) (number_cell k z)
+number_printed : IntegersThere → (k : PType) (z : ℤ) (n : _) → InRange k z → Said (integer_type k n) None (number_cell k z)
 unfolding literal_of
 number_printed there k z n inside =
     let h = in_range_true k z inside in
     record { literal = number_literal (integer_text z); says = refl; stands = integer_there there k z h; token = is_number z (integer_small k z h) }
 
--- where an integer's digits are read as it
-module _ (there : IntegersThere) where
-  said_of : (t : TypeTree) (x y : Cell) → x ≡ y → Said t y → Said t x
-  said_of t x y same said = subst (λ (z : Cell). Said t z) (sym same) said
+-- ---- values of logical types
 
-  truth_printed : (b : Bool) (n : _) → Said (bool_type n) (truth_cell b)
+-- what the law of words says
+abbrev pub WordsSay : Type 0
+WordsSay = (l : LogicalType) (word : List ℕ) (z : ℤ) → (storage_in (shape_of l) word ≡ Some z) ↔ Writes l word z
+
+placed_at : (p s : ℕ) (word : List ℕ) (z : ℤ) → storage_in (decimals p s) word ≡ Some z → place_in p s word ≡ Some (places.At z)
+unfolding storage_in place_in
+placed_at p s word z e =
+    ap (λ (v : Option ℤ). at_value_or v (option_map (place_at (10 ^ p) (10 ^ (fine_scale s word - s))) (number_at (fine_scale s word) word))) e
+
+-- a word of a number, and any word in quotes, stands at the value that it writes
+number_stands : (t : TypeTree) (l : LogicalType) (word : List ℕ) (z : ℤ) → is_numeric l ≡ true → storage_in (shape_of l) word ≡ Some z → number_of_shape t (shape_of l) word ≡ Some (exactly (logical_cell t (shape_of l) z))
+number_stands t Float64 word z numeric e = ap (option_map (λ (y : ℤ). exactly (logical_cell t float64 y))) e
+number_stands t Float32 word z numeric e = ap (option_map (λ (y : ℤ). exactly (logical_cell t float32 y))) e
+number_stands t (Decimal d) word z numeric e = ap (option_map (decimal_at t (decimals d.precision d.scale))) (placed_at d.precision d.scale word z e)
+number_stands t Date word z numeric e = let no : false ≡ true = numeric in absurd cc
+number_stands t (Time unit) word z numeric e = let no : false ≡ true = numeric in absurd cc
+number_stands t (Timestamp unit zoned) word z numeric e = let no : false ≡ true = numeric in absurd cc
+
+text_stands : (t : TypeTree) (l : LogicalType) (word : List ℕ) (z : ℤ) → storage_in (shape_of l) word ≡ Some z → text_of_shape t (shape_of l) word ≡ Some (exactly (logical_cell t (shape_of l) z))
+text_stands t Float64 word z e = number_stands t Float64 word z refl e
+text_stands t Float32 word z e = number_stands t Float32 word z refl e
+text_stands t (Decimal d) word z e = number_stands t (Decimal d) word z refl e
+text_stands t Date word z e = ap (option_map (λ (y : ℤ). exactly (logical_cell t days y))) e
+text_stands t (Time unit) word z e = ap (option_map (λ (y : ℤ). exactly (logical_cell t (times unit) y))) e
+text_stands t (Timestamp unit zoned) word z e = ap (option_map (λ (y : ℤ). exactly (logical_cell t (timestamps unit zoned) y))) e
+
+same_cell : (x y : Cell) → x.typed ≡ y.typed → x.content ≡ y.content → x ≡ y
+same_cell x y e f =
+    let made : TypeTree → Content → Cell = λ t c. record { typed = t; content = c } in
+    ap (λ (t : TypeTree). made t x.content) e ∙ ap (made y.typed) f
+
+value_cell : (t : TypeTree) (l : LogicalType) (z : ℤ) (x : Cell) → x.typed ≡ t → IsLogicalValue l z x → logical_cell t (shape_of l) z ≡ x
+value_cell t l z x same is = sym (same_cell x (logical_cell t (shape_of l) z) same (is.stored ∙ ap (λ (k : StorageType). storage_content k z) (stored_by l)))
+
+-- the word of a value stands at it in a column of its type
+module _ (types : TypesSay) (words : WordsSay) (id metadata : List ℕ) (u : TypeTree) (x : Cell) (same : x.typed ≡ extension_type id metadata u) where
+  abbrev Typed : TypeTree
+  Typed = extension_type id metadata u
+
+  shape_there : (l : LogicalType) (z : ℤ) → IsLogicalValue l z x → shape_in Typed ≡ Some (shape_of l)
+  shape_there l z is = shape_at types Typed l (subst (λ (t : TypeTree). IsOfLogicalType t l) same is.typed)
+
+  bare_said : (l : LogicalType) (z : ℤ) (word : List ℕ) → IsLogicalValue l z x → Writes l word z → is_numeric l ≡ true → is_number word ≡ true → Said Typed (Some (bare_word word)) x
+  unfolding literal_of
+  bare_said l z word is writes numeric number = record {
+    literal = number_literal word;
+    says = refl;
+    stands = ap (option_and_then (λ (s : Shape). number_of_shape Typed s word)) (shape_there l z is)
+        ∙ number_stands Typed l word z numeric ((words l word z).1 writes) ∙ ap (λ (y : Cell). Some (exactly y)) (value_cell Typed l z x same is);
+    token = whole_number word number;
+  }
+
+  quoted_said : (l : LogicalType) (z : ℤ) (word : List ℕ) → IsLogicalValue l z x → Writes l word z → Said Typed (Some (quoted_word word)) x
+  unfolding literal_of
+  quoted_said l z word is writes = record {
+    literal = text_literal word;
+    says = refl;
+    stands = ap (option_and_then (λ (s : Shape). text_of_shape Typed s word)) (shape_there l z is)
+        ∙ text_stands Typed l word z ((words l word z).1 writes) ∙ ap (λ (y : Cell). Some (exactly y)) (value_cell Typed l z x same is);
+    token = tt;
+  }
+
+  word_said : (w : WordTree) → WritesCell w x → Said Typed (Some w) x
+  word_said w h = subst (λ (v : WordTree). Said Typed (Some v) x) (sym h.printed) (by_test (is_numeric h.logical && is_number h.word) refl)
+    where
+      by_test : (b : Bool) → (is_numeric h.logical && is_number h.word) ≡ b → Said Typed (Some (cond b (bare_word h.word) (quoted_word h.word))) x
+      by_test true e = let p = both_true (is_numeric h.logical) (is_number h.word) e in bare_said h.logical h.storage h.word h.is h.writes p.0 p.1
+      by_test false e = quoted_said h.logical h.storage h.word h.is h.writes
+
+  value_said : (w : Option WordTree) → IsWordOf w x → (l : LogicalType) (z : ℤ) → IsLogicalValue l z x → Said Typed w x
+  value_said (Some w) h l z is = word_said w h
+  value_said None h l z is = absurd (h l z is)
+
+-- ---- literals of other types have no word
+
+truth_has_none : (b : Bool) → IsWordOf None (truth_cell b)
+truth_has_none b = λ l z is. let e : bool_type NonNullable ≡ extension_type is.typed.id is.typed.metadata (storage_tree is.typed.kind is.typed.nullability) = is.typed.typed in absurd cc
+
+number_has_none : (k : PType) (n : ℤ) → IsWordOf None (number_cell k n)
+number_has_none k n = λ l z is. let e : integer_type k NonNullable ≡ extension_type is.typed.id is.typed.metadata (storage_tree is.typed.kind is.typed.nullability) = is.typed.typed in absurd cc
+
+text_has_none : (bs : List ℕ) → IsWordOf None (text_cell bs)
+text_has_none bs = λ l z is. let e : utf8_type NonNullable ≡ extension_type is.typed.id is.typed.metadata (storage_tree is.typed.kind is.typed.nullability) = is.typed.typed in absurd cc
+
+bytes_have_none : (bs : List ℕ) → IsWordOf None (bytes_cell bs)
+bytes_have_none bs = λ l z is. let e : binary_type NonNullable ≡ extension_type is.typed.id is.typed.metadata (storage_tree is.typed.kind is.typed.nullability) = is.typed.typed in absurd cc
+
+no_null : (k : StorageType) (z : ℤ) → null ≡ storage_content k z → ⊥
+no_null Four z e = absurd cc
+no_null Eight z e = absurd cc
+no_null Sixteen z e = absurd cc
+
+null_has_none : (t : TypeTree) → IsWordOf None (null_cell t)
+null_has_none t = λ l z is. no_null (storage_type_of l) z is.stored
+
+-- a cell without a word is printed without one
+said_of : (t : TypeTree) (w : Option WordTree) (x y : Cell) → x ≡ y → IsWordOf w x → IsWordOf None y → Said t None y → Said t w x
+said_of t None x y same h none said = subst (λ (z : Cell). Said t None z) (sym same) said
+said_of t (Some w) x y same h none said = absurd (none h.logical h.storage (subst (λ (z : Cell). IsLogicalValue h.logical h.storage z) same h.is))
+
+-- where digits are read as their integer, and words of logical types as their value
+pub record LiteralLaws : Type 0 where
+  pub integers : IntegersThere
+  pub types : TypesSay
+  pub words : WordsSay
+
+module _ (laws : LiteralLaws) where
+  truth_printed : (b : Bool) (n : _) → Said (bool_type n) None (truth_cell b)
   unfolding literal_of
   truth_printed true n = record { literal = truth_literal true; says = refl; stands = refl; token = tt }
   truth_printed false n = record { literal = truth_literal false; says = refl; stands = refl; token = tt }
 
-  null_printed : (t : TypeTree) → Said t (null_cell t)
+  null_printed : (t : TypeTree) → Said t None (null_cell t)
   unfolding literal_of
   null_printed t = record { literal = null_literal; says = refl; stands = refl; token = tt }
 
-  text_printed : (bs : List ℕ) (n : _) → Said (utf8_type n) (text_cell bs)
+  text_printed : (bs : List ℕ) (n : _) → Said (utf8_type n) None (text_cell bs)
   unfolding literal_of
   text_printed bs n = record { literal = text_literal bs; says = refl; stands = refl; token = tt }
 
-  bytes_printed : (bs : List ℕ) (n : _) → AllByRecursion (λ b. b < 256) bs → Said (binary_type n) (bytes_cell bs)
+  bytes_printed : (bs : List ℕ) (n : _) → AllByRecursion (λ b. b < 256) bs → Said (binary_type n) None (bytes_cell bs)
   unfolding literal_of
   bytes_printed bs n small = record { literal = bytes_literal bs; says = refl; stands = refl; token = small }
 
-  value_printed : (t : TypeTree) (x : Cell) → IsValueLiteral t x → Said t x
-  value_printed (bool_type n) x v = said_of (bool_type n) x (truth_cell v.0) v.1 (truth_printed v.0 n)
-  value_printed (integer_type k n) x v = said_of (integer_type k n) x (number_cell k v.0) v.2 (number_printed there k v.0 n v.1)
-  value_printed (utf8_type n) x v = said_of (utf8_type n) x (text_cell v.0) v.2 (text_printed v.0 n)
-  value_printed (binary_type n) x v = said_of (binary_type n) x (bytes_cell v.0) v.2 (bytes_printed v.0 n v.1)
-  value_printed _ x v = absurd v
+  value_printed : (t : TypeTree) (w : Option WordTree) (x : Cell) → IsWordOf w x → IsValueLiteral t x → Said t w x
+  value_printed (bool_type n) w x h v = said_of (bool_type n) w x (truth_cell v.0) v.1 h (truth_has_none v.0) (truth_printed v.0 n)
+  value_printed (integer_type k n) w x h v = said_of (integer_type k n) w x (number_cell k v.0) v.2 h (number_has_none k v.0) (number_printed laws.integers k v.0 n v.1)
+  value_printed (utf8_type n) w x h v = said_of (utf8_type n) w x (text_cell v.0) v.2 h (text_has_none v.0) (text_printed v.0 n)
+  value_printed (binary_type n) w x h v = said_of (binary_type n) w x (bytes_cell v.0) v.2 h (bytes_have_none v.0) (bytes_printed v.0 n v.1)
+  value_printed (extension_type id metadata u) w x h v = value_said laws.types laws.words id metadata u x v.0 w h v.1 v.2 v.3
+  value_printed _ w x h v = absurd v
 
-  literal_printed : (t : TypeTree) (x : Cell) → IsLiteral t x → Said t x
-  literal_printed t x (inl same) = said_of t x (null_cell t) same (null_printed t)
-  literal_printed t x (inr v) = value_printed t x v
+  literal_printed : (t : TypeTree) (w : Option WordTree) (x : Cell) → IsWordOf w x → IsLiteral t x → Said t w x
+  literal_printed t w x h (inl same) = said_of t w x (null_cell t) same h (null_has_none t) (null_printed t)
+  literal_printed t w x h (inr v) = value_printed t w x h v
 
   -- ---- literals in parentheses
 
@@ -145,27 +266,27 @@ module _ (there : IntegersThere) where
   cells_back (x ∷ xs) = ap (λ (ys : List Cell). x ∷ ys) (cells_back xs)
 
   -- the tokens of cells are literals that stand there
-  record SaidList (t : TypeTree) (xs : List Cell) : Type 0 where
+  record SaidList (t : TypeTree) (ws : LiteralWords) (xs : List Cell) : Type 0 where
     literals : List LiteralTree
-    are : AreLiterals (literal_tokens xs) literals
+    are : AreLiterals (literal_tokens ws xs) literals
     stand : positions_of t literals ≡ Some (exactlies xs)
 
-  literals_printed : (t : TypeTree) (x : Cell) (xs : List Cell) → AllByRecursion (IsLiteral t) (x ∷ xs) → SaidList t (x ∷ xs)
-  literals_printed t x [] h =
-      let s = literal_printed t x h.0 in
+  literals_printed : (t : TypeTree) (ws : LiteralWords) (x : Cell) (xs : List Cell) → AreWordsOfEach ws (x ∷ xs) → AllByRecursion (IsLiteral t) (x ∷ xs) → SaidList t ws (x ∷ xs)
+  literals_printed t ws x [] a h =
+      let s = literal_printed t (first_word ws) x a.0 h.0 in
       record { literals = s.literal ∷ []; are = one_literal s.says; stand = stand_more t s.literal (exactly x) [] [] s.stands refl }
-  literals_printed t x (y ∷ ys) h =
-      let s = literal_printed t x h.0 in
-      let more = literals_printed t y ys h.1 in
+  literals_printed t ws x (y ∷ ys) a h =
+      let s = literal_printed t (first_word ws) x a.0 h.0 in
+      let more = literals_printed t (drop 1 ws) y ys a.1 h.1 in
       record { literals = s.literal ∷ more.literals; are = more_literals s.says more.are; stand = stand_more t s.literal (exactly x) more.literals (exactlies (y ∷ ys)) s.stands more.stand }
 
-  literals_are_tokens : (t : TypeTree) (xs : List Cell) → AllByRecursion (IsLiteral t) xs → AreTokens (literal_tokens xs)
-  literals_are_tokens t [] h = tt
-  literals_are_tokens t (x ∷ []) h = ((literal_printed t x h.0).token, tt)
-  literals_are_tokens t (x ∷ y ∷ ys) h = ((literal_printed t x h.0).token, (tt, literals_are_tokens t (y ∷ ys) h.1))
+  literals_are_tokens : (t : TypeTree) (ws : LiteralWords) (xs : List Cell) → AreWordsOfEach ws xs → AllByRecursion (IsLiteral t) xs → AreTokens (literal_tokens ws xs)
+  literals_are_tokens t ws [] a h = tt
+  literals_are_tokens t ws (x ∷ []) a h = ((literal_printed t (first_word ws) x a.0 h.0).token, tt)
+  literals_are_tokens t ws (x ∷ y ∷ ys) a h = ((literal_printed t (first_word ws) x a.0 h.0).token, (tt, literals_are_tokens t (drop 1 ws) (y ∷ ys) a.1 h.1))
 
-  abbrev member_tokens : List Cell → List TokenTree
-  member_tokens xs = keyword_token keywords.In ∷ opening ∷ (literal_tokens xs ++ closing ∷ [])
+  abbrev member_tokens : LiteralWords → List Cell → List TokenTree
+  member_tokens ws xs = keyword_token keywords.In ∷ opening ∷ (literal_tokens ws xs ++ closing ∷ [])
 
   -- tokens that are a test of column k, of type t, with this formula
   record PrintedTest (k : ℕ) (t : TypeTree) (ts : List TokenTree) (f : Formula) : Type 0 where
@@ -173,21 +294,21 @@ module _ (there : IntegersThere) where
     means : IsTest ts condition
     says : formula_in k t condition ≡ Some f
 
-  members_printed : (k : ℕ) (t : TypeTree) (xs : List Cell) → AllByRecursion (IsLiteral t) xs → PrintedTest k t (member_tokens xs) (membership k xs)
-  members_printed k t [] h = record { condition = listed []; means = in_nothing; says = refl }
-  members_printed k t (x ∷ xs) h =
-      let said = literals_printed t x xs h in
+  members_printed : (k : ℕ) (t : TypeTree) (ws : LiteralWords) (xs : List Cell) → AreWordsOfEach ws xs → AllByRecursion (IsLiteral t) xs → PrintedTest k t (member_tokens ws xs) (membership k xs)
+  members_printed k t ws [] a h = record { condition = listed []; means = in_nothing; says = refl }
+  members_printed k t ws (x ∷ xs) a h =
+      let said = literals_printed t ws x xs a h in
       record { condition = listed said.literals; means = in_literals said.are; says = ap (option_map (member_among k)) said.stand ∙ ap (λ (ys : List Cell). Some (member_of k ys)) (cells_back (x ∷ xs)) }
 
-  range_printed : (k : ℕ) (t : TypeTree) (x y : Cell) → Said t x → Said t y → PrintedTest k t (keyword_token keywords.Between ∷ literal_token x ∷ keyword_token keywords.And ∷ literal_token y ∷ []) (range k x y)
-  range_printed k t x y low high = record {
+  range_printed : (k : ℕ) (t : TypeTree) (v w : Option WordTree) (x y : Cell) → Said t v x → Said t w y → PrintedTest k t (keyword_token keywords.Between ∷ literal_token v x ∷ keyword_token keywords.And ∷ literal_token w y ∷ []) (range k x y)
+  range_printed k t v w x y low high = record {
     condition = between low.literal high.literal;
     means = between_literals low.says high.says;
     says = between_says k t low.literal high.literal (exactly x) (exactly y) low.stands high.stands;
   }
 
-  members_are_tokens : (t : TypeTree) (xs : List Cell) → AllByRecursion (IsLiteral t) xs → AreTokens (member_tokens xs)
-  members_are_tokens t xs h = (tt, (tt, tokens_append (literal_tokens xs) (closing ∷ []) (literals_are_tokens t xs h) (tt, tt)))
+  members_are_tokens : (t : TypeTree) (ws : LiteralWords) (xs : List Cell) → AreWordsOfEach ws xs → AllByRecursion (IsLiteral t) xs → AreTokens (member_tokens ws xs)
+  members_are_tokens t ws xs a h = (tt, (tt, tokens_append (literal_tokens ws xs) (closing ∷ []) (literals_are_tokens t ws xs a h) (tt, tt)))
 
   -- ---- prefixes
 
@@ -254,26 +375,32 @@ module _ (there : IntegersThere) where
       means : IsPredicate columns ts f
       tokens : AreTokens ts
 
-    call_printed : (k : ℕ) (t : TypeTree) (x : Cell) → IsFound columns names k t → holds_strings t ≡ true → Said t x → PrintedPredicate (keyword_token keywords.StartsWith ∷ opening ∷ column_token names k ∷ comma ∷ literal_token x ∷ closing ∷ []) (prefix_test k x)
-    call_printed k t x found strings said = record { means = prefix_call found said.says (begun_says k t said.literal (exactly x) (prefix_test k x) strings said.stands refl); tokens = (tt, (tt, (tt, (tt, (said.token, (tt, tt)))))) }
+    call_printed : (k : ℕ) (t : TypeTree) (w : Option WordTree) (x : Cell) → IsFound columns names k t → holds_strings t ≡ true → Said t w x → PrintedPredicate (keyword_token keywords.StartsWith ∷ opening ∷ column_token names k ∷ comma ∷ literal_token w x ∷ closing ∷ []) (prefix_test k x)
+    call_printed k t w x found strings said = record { means = prefix_call found said.says (begun_says k t said.literal (exactly x) (prefix_test k x) strings said.stands refl); tokens = (tt, (tt, (tt, (tt, (said.token, (tt, tt)))))) }
 
-    abbrev PrintedPrefix : ℕ → Cell → Type 0
-    PrintedPrefix k x = PrintedPredicate (prefix_tokens (column_token names k) x.content) (prefix_test k x)
+    abbrev PrintedPrefix : ℕ → Option WordTree → Cell → Type 0
+    PrintedPrefix k w x = PrintedPredicate (prefix_tokens (column_token names k) (literal_token w x) x.content) (prefix_test k x)
 
-    like_printed : (k : ℕ) (n : _) (bs : List ℕ) → IsFound columns names k (utf8_type n) → IsUtf8 bs → PrintedPrefix k (text_cell bs)
-    like_printed k n bs found utf8 = let test = like_by k n bs (list_any is_special bs) refl utf8 in record { means = on_column found (bare_test test.means) test.says; tokens = (tt, like_are_tokens (list_any is_special bs) bs) }
+    like_printed : (k : ℕ) (n : _) (w : Option WordTree) (bs : List ℕ) → IsFound columns names k (utf8_type n) → IsUtf8 bs → PrintedPrefix k w (text_cell bs)
+    like_printed k n w bs found utf8 = let test = like_by k n bs (list_any is_special bs) refl utf8 in record { means = on_column found (bare_test test.means) test.says; tokens = (tt, like_are_tokens (list_any is_special bs) bs) }
 
-    prefix_at : (k : ℕ) (x y : Cell) → x ≡ y → PrintedPrefix k y → PrintedPrefix k x
-    prefix_at k x y same printed = subst (λ (z : Cell). PrintedPrefix k z) (sym same) printed
+    prefix_at : (k : ℕ) (w : Option WordTree) (x y : Cell) → x ≡ y → PrintedPrefix k w y → PrintedPrefix k w x
+    prefix_at k w x y same printed = subst (λ (z : Cell). PrintedPrefix k w z) (sym same) printed
 
-    value_prefix : (k : ℕ) (t : TypeTree) (x : Cell) → IsFound columns names k t → holds_strings t ≡ true → IsValueLiteral t x → PrintedPrefix k x
-    value_prefix k (utf8_type n) x found strings v = prefix_at k x (text_cell v.0) v.2 (like_printed k n v.0 found v.1)
-    value_prefix k (binary_type n) x found strings v = prefix_at k x (bytes_cell v.0) v.2 (call_printed k (binary_type n) (bytes_cell v.0) found strings (bytes_printed v.0 n v.1))
-    value_prefix k _ x found strings v = absurd cc
+    -- by its token
+    called : (k : ℕ) (t : TypeTree) (w : Option WordTree) (x y : Cell) → IsFound columns names k t → holds_strings t ≡ true → x ≡ y → prefix_tokens (column_token names k) (literal_token w y) y.content ≡ starts_with_tokens (column_token names k) (literal_token w y)
+        → Said t w x → PrintedPrefix k w x
+    called k t w x y found strings same tokens said =
+        prefix_at k w x y same (subst (λ (ts : List TokenTree). PrintedPredicate ts (prefix_test k y)) (sym tokens) (call_printed k t w y found strings (subst (λ (z : Cell). Said t w z) same said)))
 
-    prefix_printed : (k : ℕ) (t : TypeTree) (x : Cell) → IsFound columns names k t → holds_strings t ≡ true → IsLiteral t x → PrintedPrefix k x
-    prefix_printed k t x found strings (inl same) = prefix_at k x (null_cell t) same (call_printed k t (null_cell t) found strings (null_printed t))
-    prefix_printed k t x found strings (inr v) = value_prefix k t x found strings v
+    value_prefix : (k : ℕ) (t : TypeTree) (w : Option WordTree) (x : Cell) → IsFound columns names k t → holds_strings t ≡ true → IsWordOf w x → IsValueLiteral t x → PrintedPrefix k w x
+    value_prefix k (utf8_type n) w x found strings h v = prefix_at k w x (text_cell v.0) v.2 (like_printed k n w v.0 found v.1)
+    value_prefix k (binary_type n) w x found strings h v = called k (binary_type n) w x (bytes_cell v.0) found strings v.2 refl (value_printed (binary_type n) w x h v)
+    value_prefix k _ w x found strings h v = absurd cc
+
+    prefix_printed : (k : ℕ) (t : TypeTree) (w : Option WordTree) (x : Cell) → IsFound columns names k t → holds_strings t ≡ true → IsWordOf w x → IsLiteral t x → PrintedPrefix k w x
+    prefix_printed k t w x found strings h (inl same) = called k t w x (null_cell t) found strings same refl (literal_printed t w x h (inl same))
+    prefix_printed k t w x found strings h (inr v) = value_prefix k t w x found strings h v
 
     -- ---- filters
 
@@ -316,19 +443,19 @@ module _ (there : IntegersThere) where
     moved : (l : Level) (m n : ℕ) (ts : List TokenTree) (f : Formula) → n ≡ m → Printed l m ts f → Printed l n ts f
     moved l m n ts f same p = subst (λ (k : ℕ). Printed l k ts f) (sym same) p
 
-    abbrev At : Level → ℕ → Formula → Type 0
-    At l n f = Printed l n (tokens_at names l f) f
+    abbrev At : LiteralWords → Level → ℕ → Formula → Type 0
+    At ws l n f = Printed l n (tokens_at names ws l f) f
 
     -- two printed filters with `and`, and with `or`, between them
-    abbrev conjoined : Formula → Formula → List TokenTree
-    conjoined f g = tokens_at names levels.Not f ++ (keyword_token keywords.And ∷ tokens_at names levels.And g)
+    abbrev conjoined : LiteralWords → Formula → Formula → List TokenTree
+    conjoined ws f g = tokens_at names ws levels.Not f ++ (keyword_token keywords.And ∷ tokens_at names (words_behind f ws) levels.And g)
 
-    abbrev disjoined : Formula → Formula → List TokenTree
-    disjoined f g = tokens_at names levels.And f ++ (keyword_token keywords.Or ∷ tokens_at names levels.Or g)
+    abbrev disjoined : LiteralWords → Formula → Formula → List TokenTree
+    disjoined ws f g = tokens_at names ws levels.And f ++ (keyword_token keywords.Or ∷ tokens_at names (words_behind f ws) levels.Or g)
 
     -- what a printed filter needs
-    abbrev Prints : Formula → Type 0
-    Prints f = (l : Level) (n : ℕ) → depth_at l f ≤ n → At l n f
+    abbrev Prints : LiteralWords → Formula → Type 0
+    Prints ws f = (l : Level) (n : ℕ) → depth_at l f ≤ n → At ws l n f
 
     less : (a b n : ℕ) → max (suc a) b ≤ n → (n ≡ suc (n - 1)) × (a ≤ n - 1) × (b ≤ suc (n - 1))
     less a b n h =
@@ -336,81 +463,81 @@ module _ (there : IntegersThere) where
         let right : b ≤ max (suc a) b = le-max_right (suc a) b in
         (omega arith, omega arith, omega arith)
 
-    and_bare : (f g : Formula) → Prints f → Prints g → (n : ℕ) → max (suc (depth_at levels.And g)) (depth_at levels.Not f) ≤ n → Printed levels.And n (conjoined f g) (both f g)
-    and_bare f g p q n h =
+    and_bare : (ws : LiteralWords) (f g : Formula) → Prints ws f → Prints (words_behind f ws) g → (n : ℕ) → max (suc (depth_at levels.And g)) (depth_at levels.Not f) ≤ n → Printed levels.And n (conjoined ws f g) (both f g)
+    and_bare ws f g p q n h =
         let parts = less (depth_at levels.And g) (depth_at levels.Not f) n h in
-        moved levels.And (suc (n - 1)) n (conjoined f g) (both f g) parts.0
-        (and_made (n - 1) (tokens_at names levels.Not f) (tokens_at names levels.And g) f g (p levels.Not (suc (n - 1)) parts.2) (q levels.And (n - 1) parts.1))
+        moved levels.And (suc (n - 1)) n (conjoined ws f g) (both f g) parts.0
+        (and_made (n - 1) (tokens_at names ws levels.Not f) (tokens_at names (words_behind f ws) levels.And g) f g (p levels.Not (suc (n - 1)) parts.2) (q levels.And (n - 1) parts.1))
 
-    or_bare : (f g : Formula) → Prints f → Prints g → (n : ℕ) → max (suc (depth_at levels.Or g)) (depth_at levels.And f) ≤ n → Printed levels.Or n (disjoined f g) (either f g)
-    or_bare f g p q n h =
+    or_bare : (ws : LiteralWords) (f g : Formula) → Prints ws f → Prints (words_behind f ws) g → (n : ℕ) → max (suc (depth_at levels.Or g)) (depth_at levels.And f) ≤ n → Printed levels.Or n (disjoined ws f g) (either f g)
+    or_bare ws f g p q n h =
         let parts = less (depth_at levels.Or g) (depth_at levels.And f) n h in
-        moved levels.Or (suc (n - 1)) n (disjoined f g) (either f g) parts.0
-        (or_made (n - 1) (tokens_at names levels.And f) (tokens_at names levels.Or g) f g (p levels.And (suc (n - 1)) parts.2) (q levels.Or (n - 1) parts.1))
+        moved levels.Or (suc (n - 1)) n (disjoined ws f g) (either f g) parts.0
+        (or_made (n - 1) (tokens_at names ws levels.And f) (tokens_at names (words_behind f ws) levels.Or g) f g (p levels.And (suc (n - 1)) parts.2) (q levels.Or (n - 1) parts.1))
 
     in_group : (d n : ℕ) → suc d ≤ n → (n ≡ suc (n - 1)) × (d ≤ n - 1)
     in_group d n h = (omega arith, omega arith)
 
-    and_printed : (f g : Formula) → Prints f → Prints g → Prints (both f g)
-    and_printed f g p q levels.Or n h = widened n (conjoined f g) (both f g) (and_bare f g p q n h)
-    and_printed f g p q levels.And n h = and_bare f g p q n h
-    and_printed f g p q levels.Not n h =
+    and_printed : (ws : LiteralWords) (f g : Formula) → Prints ws f → Prints (words_behind f ws) g → Prints ws (both f g)
+    and_printed ws f g p q levels.Or n h = widened n (conjoined ws f g) (both f g) (and_bare ws f g p q n h)
+    and_printed ws f g p q levels.And n h = and_bare ws f g p q n h
+    and_printed ws f g p q levels.Not n h =
         let parts = in_group (max (suc (depth_at levels.And g)) (depth_at levels.Not f)) n h in
-        moved levels.Not (suc (n - 1)) n (opening ∷ (conjoined f g ++ closing ∷ [])) (both f g) parts.0
-        (grouping (n - 1) (conjoined f g) (both f g) (widened (n - 1) (conjoined f g) (both f g) (and_bare f g p q (n - 1) parts.1)))
+        moved levels.Not (suc (n - 1)) n (opening ∷ (conjoined ws f g ++ closing ∷ [])) (both f g) parts.0
+        (grouping (n - 1) (conjoined ws f g) (both f g) (widened (n - 1) (conjoined ws f g) (both f g) (and_bare ws f g p q (n - 1) parts.1)))
 
-    or_grouped : (f g : Formula) → Prints f → Prints g → (n : ℕ) → suc (max (suc (depth_at levels.Or g)) (depth_at levels.And f)) ≤ n → Printed levels.Not n (opening ∷ (disjoined f g ++ closing ∷ [])) (either f g)
-    or_grouped f g p q n h =
+    or_grouped : (ws : LiteralWords) (f g : Formula) → Prints ws f → Prints (words_behind f ws) g → (n : ℕ) → suc (max (suc (depth_at levels.Or g)) (depth_at levels.And f)) ≤ n → Printed levels.Not n (opening ∷ (disjoined ws f g ++ closing ∷ [])) (either f g)
+    or_grouped ws f g p q n h =
         let parts = in_group (max (suc (depth_at levels.Or g)) (depth_at levels.And f)) n h in
-        moved levels.Not (suc (n - 1)) n (opening ∷ (disjoined f g ++ closing ∷ [])) (either f g) parts.0
-        (grouping (n - 1) (disjoined f g) (either f g) (or_bare f g p q (n - 1) parts.1))
+        moved levels.Not (suc (n - 1)) n (opening ∷ (disjoined ws f g ++ closing ∷ [])) (either f g) parts.0
+        (grouping (n - 1) (disjoined ws f g) (either f g) (or_bare ws f g p q (n - 1) parts.1))
 
-    or_printed : (f g : Formula) → Prints f → Prints g → Prints (either f g)
-    or_printed f g p q levels.Or n h = or_bare f g p q n h
-    or_printed f g p q levels.And n h = lifted levels.And n (opening ∷ (disjoined f g ++ closing ∷ [])) (either f g) (or_grouped f g p q n h)
-    or_printed f g p q levels.Not n h = or_grouped f g p q n h
+    or_printed : (ws : LiteralWords) (f g : Formula) → Prints ws f → Prints (words_behind f ws) g → Prints ws (either f g)
+    or_printed ws f g p q levels.Or n h = or_bare ws f g p q n h
+    or_printed ws f g p q levels.And n h = lifted levels.And n (opening ∷ (disjoined ws f g ++ closing ∷ [])) (either f g) (or_grouped ws f g p q n h)
+    or_printed ws f g p q levels.Not n h = or_grouped ws f g p q n h
 
-    negation_printed : (f : Formula) → Prints f → (l : Level) (n : ℕ) → suc (depth_at levels.Not f) ≤ n → Printed l n (keyword_token keywords.Not ∷ tokens_at names levels.Not f) (negation f)
-    negation_printed f p l n h =
+    negation_printed : (ws : LiteralWords) (f : Formula) → Prints ws f → (l : Level) (n : ℕ) → suc (depth_at levels.Not f) ≤ n → Printed l n (keyword_token keywords.Not ∷ tokens_at names ws levels.Not f) (negation f)
+    negation_printed ws f p l n h =
         let parts = in_group (depth_at levels.Not f) n h in
-        moved l (suc (n - 1)) n (keyword_token keywords.Not ∷ tokens_at names levels.Not f) (negation f) parts.0
-        (negated l (n - 1) (tokens_at names levels.Not f) f (p levels.Not (n - 1) parts.1))
+        moved l (suc (n - 1)) n (keyword_token keywords.Not ∷ tokens_at names ws levels.Not f) (negation f) parts.0
+        (negated l (n - 1) (tokens_at names ws levels.Not f) f (p levels.Not (n - 1) parts.1))
 
-    constant_printed : (t : _) → Prints (constant t)
-    constant_printed truths.True l n h = plain l n (keyword_token keywords.True ∷ []) (constant truths.True) (record { means = says_true; tokens = (tt, tt) })
-    constant_printed truths.False l n h = plain l n (keyword_token keywords.False ∷ []) (constant truths.False) (record { means = says_false; tokens = (tt, tt) })
-    constant_printed truths.Unknown l n h = plain l n (keyword_token keywords.Null ∷ []) (constant truths.Unknown) (record { means = says_null; tokens = (tt, tt) })
+    constant_printed : (ws : LiteralWords) (t : _) → Prints ws (constant t)
+    constant_printed ws truths.True l n h = plain l n (keyword_token keywords.True ∷ []) (constant truths.True) (record { means = says_true; tokens = (tt, tt) })
+    constant_printed ws truths.False l n h = plain l n (keyword_token keywords.False ∷ []) (constant truths.False) (record { means = says_false; tokens = (tt, tt) })
+    constant_printed ws truths.Unknown l n h = plain l n (keyword_token keywords.Null ∷ []) (constant truths.Unknown) (record { means = says_null; tokens = (tt, tt) })
 
-    -- a filter whose columns are found and whose literals are their types' is printed in the grammar
-    printed : (f : Formula) → IsReadable columns names f → Prints f
-    printed (constant t) r l n h = constant_printed t l n h
-    printed (comparison k op x) r l n h =
-        let said = literal_printed r.0 x r.2 in
+    -- a filter whose columns are found and whose literals are their types' is printed in the grammar, by words of its literals
+    printed : (ws : LiteralWords) (f : Formula) → AreWordsOf ws f → IsReadable columns names f → Prints ws f
+    printed ws (constant t) a r l n h = constant_printed ws t l n h
+    printed ws (comparison k op x) a r l n h =
+        let said = literal_printed r.0 (first_word ws) x a r.2 in
         conditional l n k r.0 _ (compared op said.literal) (comparison k op x) r.1 (compares said.says) (ap (option_map (comparison_of k op)) said.stands) (tt, (said.token, tt))
-    printed (null_test k) r l n h = conditional l n k r.0 _ missing (null_test k) r.1 is_null refl (tt, (tt, tt))
-    printed (membership k xs) r l n h = tested l n k r.0 (member_tokens xs) (membership k xs) r.1 (members_printed k r.0 xs r.2) (members_are_tokens r.0 xs r.2)
-    printed (range k x y) r l n h =
-        let low = literal_printed r.0 x r.2 in
-        let high = literal_printed r.0 y r.3 in
-        tested l n k r.0 _ (range k x y) r.1 (range_printed k r.0 x y low high) (tt, (low.token, (tt, (high.token, tt))))
-    printed (prefix_test k x) r l n h = plain l n (prefix_tokens (column_token names k) x.content) (prefix_test k x) (prefix_printed k r.0 x r.1 r.2 r.3)
-    printed (both f g) r l n h = and_printed f g (printed f r.0) (printed g r.1) l n h
-    printed (either f g) r l n h = or_printed f g (printed f r.0) (printed g r.1) l n h
-    printed (negation (null_test k)) r l n h = conditional l n k r.0 _ (denied missing) (negation (null_test k)) r.1 is_not_null refl (tt, (tt, (tt, tt)))
-    printed (negation (membership k xs)) r l n h = denied_test l n k r.0 (member_tokens xs) (membership k xs) r.1 (members_printed k r.0 xs r.2) (members_are_tokens r.0 xs r.2)
-    printed (negation (range k x y)) r l n h =
-        let low = literal_printed r.0 x r.2 in
-        let high = literal_printed r.0 y r.3 in
-        denied_test l n k r.0 _ (range k x y) r.1 (range_printed k r.0 x y low high) (tt, (low.token, (tt, (high.token, tt))))
-    printed (negation (constant t)) r l n h = negation_printed (constant t) (printed (constant t) r) l n h
-    printed (negation (comparison k op x)) r l n h = negation_printed (comparison k op x) (printed (comparison k op x) r) l n h
-    printed (negation (prefix_test k x)) r l n h = negation_printed (prefix_test k x) (printed (prefix_test k x) r) l n h
-    printed (negation (both f g)) r l n h = negation_printed (both f g) (printed (both f g) r) l n h
-    printed (negation (either f g)) r l n h = negation_printed (either f g) (printed (either f g) r) l n h
-    printed (negation (negation f)) r l n h = negation_printed (negation f) (printed (negation f) r) l n h
+    printed ws (null_test k) a r l n h = conditional l n k r.0 _ missing (null_test k) r.1 is_null refl (tt, (tt, tt))
+    printed ws (membership k xs) a r l n h = tested l n k r.0 (member_tokens ws xs) (membership k xs) r.1 (members_printed k r.0 ws xs a r.2) (members_are_tokens r.0 ws xs a r.2)
+    printed ws (range k x y) a r l n h =
+        let low = literal_printed r.0 (first_word ws) x a.0 r.2 in
+        let high = literal_printed r.0 (first_word (drop 1 ws)) y a.1 r.3 in
+        tested l n k r.0 _ (range k x y) r.1 (range_printed k r.0 (first_word ws) (first_word (drop 1 ws)) x y low high) (tt, (low.token, (tt, (high.token, tt))))
+    printed ws (prefix_test k x) a r l n h = plain l n (prefix_tokens (column_token names k) (literal_token (first_word ws) x) x.content) (prefix_test k x) (prefix_printed k r.0 (first_word ws) x r.1 r.2 a r.3)
+    printed ws (both f g) a r l n h = and_printed ws f g (printed ws f a.0 r.0) (printed (words_behind f ws) g a.1 r.1) l n h
+    printed ws (either f g) a r l n h = or_printed ws f g (printed ws f a.0 r.0) (printed (words_behind f ws) g a.1 r.1) l n h
+    printed ws (negation (null_test k)) a r l n h = conditional l n k r.0 _ (denied missing) (negation (null_test k)) r.1 is_not_null refl (tt, (tt, (tt, tt)))
+    printed ws (negation (membership k xs)) a r l n h = denied_test l n k r.0 (member_tokens ws xs) (membership k xs) r.1 (members_printed k r.0 ws xs a r.2) (members_are_tokens r.0 ws xs a r.2)
+    printed ws (negation (range k x y)) a r l n h =
+        let low = literal_printed r.0 (first_word ws) x a.0 r.2 in
+        let high = literal_printed r.0 (first_word (drop 1 ws)) y a.1 r.3 in
+        denied_test l n k r.0 _ (range k x y) r.1 (range_printed k r.0 (first_word ws) (first_word (drop 1 ws)) x y low high) (tt, (low.token, (tt, (high.token, tt))))
+    printed ws (negation (constant t)) a r l n h = negation_printed ws (constant t) (printed ws (constant t) a r) l n h
+    printed ws (negation (comparison k op x)) a r l n h = negation_printed ws (comparison k op x) (printed ws (comparison k op x) a r) l n h
+    printed ws (negation (prefix_test k x)) a r l n h = negation_printed ws (prefix_test k x) (printed ws (prefix_test k x) a r) l n h
+    printed ws (negation (both f g)) a r l n h = negation_printed ws (both f g) (printed ws (both f g) a r) l n h
+    printed ws (negation (either f g)) a r l n h = negation_printed ws (either f g) (printed ws (either f g) a r) l n h
+    printed ws (negation (negation f)) a r l n h = negation_printed ws (negation f) (printed ws (negation f) a r) l n h
 
-    pub text_means : (f : Formula) (n : ℕ) → IsReadable columns names f → depth f ≤ n → IsFilter columns levels.Or n (tokens_of names f) f
-    text_means f n r h = (printed f r levels.Or n h).means
+    pub text_means : (ws : LiteralWords) (f : Formula) (n : ℕ) → AreWordsOf ws f → IsReadable columns names f → depth f ≤ n → IsFilter columns levels.Or n (tokens_of names ws f) f
+    text_means ws f n a r h = (printed ws f a r levels.Or n h).means
 
-    pub text_tokens : (f : Formula) (n : ℕ) → IsReadable columns names f → depth f ≤ n → AreTokens (tokens_of names f)
-    text_tokens f n r h = (printed f r levels.Or n h).tokens
+    pub text_tokens : (ws : LiteralWords) (f : Formula) (n : ℕ) → AreWordsOf ws f → IsReadable columns names f → depth f ≤ n → AreTokens (tokens_of names ws f)
+    text_tokens ws f n a r h = (printed ws f a r levels.Or n h).tokens

@@ -1,5 +1,5 @@
 -- What is read is spelled as the token says, and ends where it has to.
-use Rattle.std.proofs.Common.{◌≡◌, ◌≢◌, ◌⊎◌, inl, inr, ℕ, zero, suc, ◌+◌, ◌-◌, ◌<◌, ◌≤◌, ◌||◌, ◌&&◌, List, [], ◌∷◌, ◌++◌, Option, Some, None, IfSome, option_and_then, Bool, true, false, not, cond, Result, Ok, Err, append_assoc, add-one, add-zero, nat_lt, length-append, length, get_or, take, drop, map, refl, sym, ap, ◌∙◌, subst, arith, ◌==◌, ⊎_elim, length-take-le, get_or-drop, take-append-drop, ltb-true}
+use Rattle.std.proofs.Common.{◌≡◌, ◌≢◌, ◌⊎◌, inl, inr, ℕ, zero, suc, ◌+◌, ◌-◌, ◌<◌, ◌≤◌, ◌||◌, ◌&&◌, List, [], ◌∷◌, ◌++◌, Option, Some, None, IfSome, option_and_then, Bool, true, false, not, cond, Result, Ok, Err, append_assoc, append-nil, add-one, add-zero, nat_lt, length-append, length, get_or, take, drop, map, refl, sym, ap, ◌∙◌, subst, arith, ◌==◌, ⊎_elim, length-take-le, get_or-drop, take-append-drop, ltb-true}
 use Rattle.std.proofs.str.Laws.{order}
 use Rattle.std.specs.Char.{digit_value, is_ascii_digit, to_ascii_lowercase}
 use Rattle.std.specs.List.{prefix_len, position_or_len, list_all, find}
@@ -16,7 +16,7 @@ use Rattle.vortex_filter.specs.declared.operator.CompareOperator.TheVariants as 
 use Rattle.filter_sql.specs.declared.lex.LexError.{LexError}
 use Rattle.filter_sql.specs.declared.token.Keyword.{Keyword}
 use Rattle.filter_sql.specs.Tokens.{TokenTree, name_token, number_token, bytes_token, operator_token, opening, closing, comma, doubled, quoted, sign_text, Power, Sign, no_sign, plus_sign, minus_sign, IsNumber, IsPower, fraction_text, is_e, is_point, number_goes_on, power_sign, power_text, all_keywords, keyword_text, keyword_named, is_word, is_word_byte, is_word_start, is_x, goes_on, IsFront, Spells}
-use Rattle.filter_sql.specs.Lexing.{Cut, after_digits, after_fraction, after_minus, after_number, after_power, after_sign, bytes_at, bytes_cut, cut_after, is_quote, mark_of, number_at, number_cut, other_at, parameter_at, quoted_cut, quoted_token, token_at, unquoted_at, with_byte, word_at, word_token}
+use Rattle.filter_sql.specs.Lexing.{Cut, after_digits, after_fraction, after_minus, after_number, after_power, after_sign, bytes_at, bytes_cut, cut_after, is_all, is_number, is_quote, mark_of, number_at, number_cut, other_at, parameter_at, quoted_cut, quoted_token, token_at, unquoted_at, with_byte, word_at, word_token}
 use Rattle.filter_sql.proofs.Again.{AllPassing, both_true, hex_text, quoted_text, regrouped, take_word}
 
 -- the text begins with the token, which takes at least a byte, and goes on so
@@ -314,6 +314,15 @@ number_seam text rest h utf8 =
     let size : length text ≡ length n.word + length rest = ap length n.whole ∙ length-append n.word rest in
     let count : length n.word ≡ length text - length rest = omega (arith, size) in
     (omega (arith, size), subst (IsCharBoundary text) count (IsCharBoundary-at_seam text n.word rest n.whole utf8))
+
+-- a word that is a number to its end
+pub whole_number : (word : List ℕ) → is_number word ≡ true → IsNumber word
+whole_number word h = by_rest (after_number (after_minus word)) refl h
+  where
+    by_rest : (o : Option (List ℕ)) → after_number (after_minus word) ≡ o → is_all o ≡ true → IsNumber word
+    by_rest None read e = let no : false ≡ true = e in absurd cc
+    by_rest (Some []) read e = let n = unsigned_taken word [] read in subst IsNumber (sym (n.whole ∙ append-nil n.word)) n.is
+    by_rest (Some (b ∷ bs)) read e = let no : false ≡ true = e in absurd cc
 
 number_cut_taken : (text : List ℕ) (o : Option (List ℕ)) (t : TokenTree) (after : List ℕ) → after_number (after_minus text) ≡ o → number_cut text o ≡ Ok (t, after) → Taken text t after
 number_cut_taken text None t after read h = cc

@@ -109,6 +109,14 @@ after_number text = option_and_then after_power (option_and_then after_fraction 
 abbrev pub after_minus : List ℕ → List ℕ
 after_minus text = if slice_index text 0 == 45 then drop 1 text else text
 
+-- whether a word is a number, to its end
+abbrev pub is_all : Option (List ℕ) → Bool
+is_all (Some []) = true
+is_all _ = false
+
+abbrev pub is_number : List ℕ → Bool
+is_number word = is_all (after_number (after_minus word))
+
 abbrev pub number_cut : List ℕ → Option (List ℕ) → Result Cut LexError
 number_cut text None = Err BadText
 number_cut text (Some rest) = if number_goes_on (slice_index rest 0) then Err BadText else Ok (number_token (take (length text - length rest) text), rest)

@@ -1,7 +1,9 @@
+pub mod Choosing
 pub mod ColumnNames
 pub mod Faults
 pub mod Grammar
 pub mod Lexing
+pub mod LiteralWords
 pub mod Literals
 pub mod Mistakes
 pub mod Parsing

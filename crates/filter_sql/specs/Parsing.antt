@@ -2,7 +2,7 @@
 use Rattle.std.specs.Prelude.{◌≡◌, ◌⊎◌, ◌<◌, ℕ, ℤ, suc, max, true, false, Bool, List, map, Result, MatchResult, None, Some, slice_get}
 use Rattle.std.specs.List.{AllByRecursion}
 use Rattle.std.specs.Str.{IsUtf8}
-use Rattle.vortex_dtype.specs.TypeTree.{TypeTree, bool_type, integer_type, utf8_type, binary_type}
+use Rattle.vortex_dtype.specs.TypeTree.{TypeTree, bool_type, integer_type, utf8_type, binary_type, extension_type}
 use Rattle.vortex_pvalue.specs.Numbers.{InRange}
 use Rattle.vortex_value.specs.TypesWithin.{HasNoVariant}
 use Rattle.vortex_cells.specs.Cells.{Cell}
@@ -17,6 +17,8 @@ use Rattle.vortex_filter.specs.Formula.{Formula, formula, constant, comparison, 
 use Rattle.filter_sql.specs.Grammar.{IsFilter}
 use Rattle.vortex_filter.specs.CheckSteps.{holds_strings}
 use Rattle.vortex_filter.specs.Literals.{null_cell, truth_cell, number_cell, text_cell, bytes_cell}
+use Rattle.logical_types.specs.declared.logical.LogicalType.{LogicalType}
+use Rattle.filter_sql.specs.LiteralWords.{IsLogicalValue}
 use Rattle.filter_sql.specs.Mistakes.{error_of, filter_mistake}
 use Rattle.filter_sql.specs.Printing.{column_name, groups_and, groups_or}
 use Rattle.filter_sql.specs.Texts.{Item, AreItemsOf, EndsAt}
@@ -79,6 +81,7 @@ IsValueLiteral (bool_type n) x = (b : Bool) × (x ≡ truth_cell b)
 IsValueLiteral (integer_type k n) x = (z : ℤ) × InRange k z × (x ≡ number_cell k z)
 IsValueLiteral (utf8_type n) x = (bs : List ℕ) × IsUtf8 bs × (x ≡ text_cell bs)
 IsValueLiteral (binary_type n) x = (bs : List ℕ) × AllByRecursion (λ b. b < 256) bs × (x ≡ bytes_cell bs)
+IsValueLiteral (extension_type id metadata u) x = (x.typed ≡ extension_type id metadata u) × (logical : LogicalType) × (z : ℤ) × IsLogicalValue logical z x
 IsValueLiteral _ x = ⊥
 
 -- a null of the type, or such a value

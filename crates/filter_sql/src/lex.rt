@@ -11,7 +11,7 @@ ghost use Rattle.filter_sql.specs.Words.{Gives, name_token, quoted_token, string
 ghost use Rattle.filter_sql.specs.Words.{is_word_byte, is_word_start, keyword_named, keyword_text, mark_of};
 ghost use Rattle.filter_sql.specs.Words.{parameter_at, quoted_at, token_at, token_tree, unquoted_at, view};
 ghost use Rattle.filter_sql.specs.Words.{after_digits, after_fraction, after_minus, after_number, after_power};
-ghost use Rattle.filter_sql.specs.Words.{after_sign, number_goes_on, word_at};
+ghost use Rattle.filter_sql.specs.Words.{after_sign, is_number, number_goes_on, word_at};
 
 use crate::error::ParseError;
 use crate::token::{Keyword, Placed, Token};
@@ -252,6 +252,16 @@ fn goes_on(text: &str) -> bool
     match text.as_bytes() {
         [byte, ..] => byte.is_ascii_digit() || matches!(*byte, b'.' | b'e' | b'E'),
         [] => false,
+    }
+}
+
+/// Whether a word is a number, to its end.
+pub(crate) fn is_number(word: &str) -> bool
+    ensures { result ≡ is_number word.now }
+{
+    match after_number(after_minus(word)) {
+        Some(rest) => rest.is_empty(),
+        None => false,
     }
 }
 

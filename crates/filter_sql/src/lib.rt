@@ -7,6 +7,7 @@ mod column;
 mod error;
 pub mod laws;
 mod lex;
+mod literal_words;
 mod parsing;
 mod print;
 mod token;

@@ -17,7 +17,7 @@ ghost use Rattle.vortex_filter.specs.FilterLiterals.{AreValid, literals_of};
 ghost use Rattle.vortex_filter.specs.Formula.{Formula, formula};
 ghost use Rattle.filter_sql.specs.Parsing.{AllOrdered, IsReadable, IsSql, IsSqlWithin, ReadsAs, RefusesSql};
 ghost use Rattle.filter_sql.specs.Parsing.{RefusesSqlWithin, depth, depth as text_depth, types_of};
-ghost use Rattle.filter_sql.specs.Printing.{sql_text};
+ghost use Rattle.filter_sql.specs.Printing.{IsSqlText};
 ghost use Rattle.filter_sql.specs.Mistakes.{IsFaultIn, caused, error_at, error_of, filter_mistake, if_whole};
 ghost use Rattle.filter_sql.specs.Mistakes.{place_where};
 ghost use Rattle.filter_sql.specs.Reading.{filter_at};
@@ -30,7 +30,8 @@ use crate::lex::{Ending, LexError as Unread, at, lex};
 use crate::token::Placed;
 use errors::{Cause, TokenError};
 use filters::filter_of;
-use logical_types::laws::integers_lie_at_themselves;
+use logical_scalars::laws::shapes_say_types;
+use logical_types::laws::{integers_lie_at_themselves, shapes_say_words};
 use std::alloc::Global;
 use vortex_filter::Filter;
 
@@ -54,7 +55,7 @@ pub fn parse(alloc: Global, text: &str, columns: &[Column]) -> Result<Filter, Pa
     // What is printed is read again, unless memory runs out.
     ensures printed { (names : List (List ℕ)) (f : Formula)
         → IsReadable (column_trees columns.now) names f → depth f ≤ 256
-        → text.now ≡ sql_text names f → ReadsAs f result }
+        → IsSqlText names f text.now → ReadsAs f result }
     // It fits the columns, if no variant stands in their types.
     ensures fits { AllOrdered (column_trees columns.now) → IfOk result (λ filter.
         FitsColumns (types_of (column_trees columns.now)) (formula filter)) }
@@ -80,7 +81,7 @@ pub fn parse_within(
         IsSqlWithin depth (column_trees columns.now) text.now (formula filter)) }
     ensures printed { (names : List (List ℕ)) (f : Formula)
         → IsReadable (column_trees columns.now) names f → text_depth f ≤ depth
-        → text.now ≡ sql_text names f → ReadsAs f result }
+        → IsSqlText names f text.now → ReadsAs f result }
     ensures fits { AllOrdered (column_trees columns.now) → IfOk result (λ filter.
         FitsColumns (types_of (column_trees columns.now)) (formula filter)) }
     ensures valid { IfOk result (λ filter. AreValid (literals_of filter)) }
@@ -89,6 +90,8 @@ pub fn parse_within(
     ensures placed { IfErr result (IsPlaced (length text.now)) }
 {
     integers_lie_at_themselves();
+    shapes_say_types();
+    shapes_say_words();
     let lexed = lex(alloc, text)?;
     filter_in(alloc, columns, &lexed.tokens, lexed.ending, depth)
 }

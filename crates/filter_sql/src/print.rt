@@ -1,21 +1,24 @@
 //! Filters printed as SQL text.
 
-ghost use Rattle.std.specs.Prelude.{◌≡◌, ◌++◌, ◌∷◌, ◌+◌, ◌<◌, ◌==◌, [], Some, codes, map, if◌then◌else◌};
+ghost use Rattle.std.specs.Prelude.{◌≡◌, ◌++◌, ◌∷◌, ◌+◌, ◌<◌, ◌==◌, [], Some, codes, drop, map, option_map};
+ghost use Rattle.std.specs.Prelude.{if◌then◌else◌, IfOk};
 ghost use Rattle.filter_sql.specs.Words.{WritesOnOk, decimal, list_any, and_text, cell_of, chars, column_text};
 ghost use Rattle.filter_sql.specs.Words.{comparison_text, constant_keyword, doubled, encode_lower, escape_text};
 ghost use Rattle.filter_sql.specs.Words.{flat_map, formula, group_text, is_special, keyword_text, like_text};
 ghost use Rattle.filter_sql.specs.Words.{literal_text, literals_text, membership_text, names_of, negation};
 ghost use Rattle.filter_sql.specs.Words.{null_test_text, operator_text, or_text, patterned, prefix_pattern};
 ghost use Rattle.filter_sql.specs.Words.{prefix_text, quotable, quoted, range_text, scalar_content, sql_text};
-ghost use Rattle.filter_sql.specs.Printing.{is_extended};
 ghost use Rattle.filter_sql.specs.Words.{starts_with_text, text_at, two_digits};
-ghost use Rattle.vortex_dtype.specs.TypeOf.{type_of};
+ghost use Rattle.filter_sql.specs.LiteralWords.{first_word, token_of_word, word_tree, word_trees};
+ghost use Rattle.filter_sql.specs.Printing.{IsSqlText, written_text};
+ghost use Rattle.filter_sql.specs.Tokens.{spelling};
 
 use crate::column::Column;
 use crate::lex::keyword_text;
+use crate::literal_words::{Word, is_logical, word_at, words_behind, words_of};
 use crate::token::Keyword;
+use std::alloc::{AllocError, Global};
 use std::fmt::{self, Display, Formatter, Write};
-use vortex_dtype::DType;
 use vortex_filter::{CompareOperator, Filter, Truth};
 use vortex_value::{Scalar, ScalarValue};
 
@@ -29,19 +32,32 @@ pub(crate) enum Level {
 
 /// A filter that is printed with the names of its columns. A column that is not there is printed as
 /// its number, from `$1` on.
-#[derive(Clone, Copy)]
+#[derive(Drop)]
 pub struct Sql<'a> {
     pub(crate) filter: &'a Filter,
     pub(crate) columns: &'a [Column],
+    /// The words of literals of logical types, one for each literal; or none, if none has one.
+    pub(crate) words: Vec<Option<Word>>,
 }
 
 impl<'a> Sql<'a> {
-    /// The filter as SQL text, with the names of the columns.
-    pub fn of(filter: &'a Filter, columns: &'a [Column]) -> Sql<'a>
-        ensures filter { result.filter.now ≡ filter.now }
-        ensures columns { result.columns.now ≡ columns.now }
+    /// The filter as SQL text, with the names of the columns. It takes memory only if a literal is of
+    /// a logical type, for its word.
+    pub fn of(
+        alloc: Global,
+        filter: &'a Filter,
+        columns: &'a [Column],
+    ) -> Result<Sql<'a>, AllocError>
+        // What `Display` writes is a text of the filter.
+        ensures { IfOk result (λ sql.
+            IsSqlText (names_of columns.now) (formula filter.now) (written_text sql)) }
     {
-        Sql { filter, columns }
+        let words = words_of(alloc, filter)?;
+        Ok(Sql {
+            filter,
+            columns,
+            words,
+        })
     }
 }
 
@@ -154,20 +170,38 @@ fn write_column<W: Write>(column: usize, columns: &[Column], f: &mut Formatter<W
     }
 }
 
-/// Whether values of the type are more than what stores them.
-fn is_extended(dtype: &DType) -> bool
-    ensures { result ≡ is_extended (type_of dtype.now) }
+/// Writes the word of a literal.
+fn write_word<W: Write>(word: &Word, f: &mut Formatter<W>) -> fmt::Result
+    ensures { WritesOnOk W.write_str_gives f.old result (spelling (token_of_word (word_tree word.now))) f.new }
 {
-    matches!(dtype, DType::Extension(_))
+    match word {
+        Word::Bare(word) => f.write_str(word.as_str()),
+        Word::Quoted(word) => write_quoted(word.as_str(), '\'', f),
+    }
 }
 
-/// Writes a literal, and a question mark for what SQL has no literal for.
-fn write_literal<W: Write>(literal: &Scalar, f: &mut Formatter<W>) -> fmt::Result
-    ensures { WritesOnOk W.write_str_gives f.old result (literal_text (cell_of literal.now)) f.new }
+/// Writes a literal by its word, if it has one.
+fn write_literal<W: Write>(
+    word: Option<&Word>,
+    literal: &Scalar,
+    f: &mut Formatter<W>,
+) -> fmt::Result
+    ensures { WritesOnOk W.write_str_gives f.old result
+        (literal_text (option_map (λ word. word_tree word.now) word.entry) (cell_of literal.now)) f.new }
+{
+    match word {
+        Some(word) => write_word(word, f),
+        None => write_content(literal, f),
+    }
+}
+
+/// Writes a literal without a word, and a question mark for what SQL has no literal for.
+fn write_content<W: Write>(literal: &Scalar, f: &mut Formatter<W>) -> fmt::Result
+    ensures { WritesOnOk W.write_str_gives f.old result (literal_text None (cell_of literal.now)) f.new }
 {
     match literal.value() {
         None => f.write_str("null"),
-        Some(_) if is_extended(&literal.dtype) => f.write_str("?"),
+        Some(_) if is_logical(&literal.dtype) => f.write_str("?"),
         Some(ScalarValue::Bool(true)) => f.write_str("true"),
         Some(ScalarValue::Bool(false)) => f.write_str("false"),
         Some(ScalarValue::Primitive(number)) => {
@@ -209,16 +243,17 @@ fn write_comparison<W: Write>(
     operator: CompareOperator,
     literal: &Scalar,
     columns: &[Column],
+    words: &[Option<Word>],
     f: &mut Formatter<W>,
 ) -> fmt::Result
-    ensures { WritesOnOk W.write_str_gives f.old result
-        (comparison_text (names_of columns.now) column operator (cell_of literal.now)) f.new }
+    ensures { WritesOnOk W.write_str_gives f.old result (comparison_text (names_of columns.now)
+        (word_trees words.now) column operator (cell_of literal.now)) f.new }
 {
     write_column(column, columns, f)?;
     f.write_str(" ")?;
     f.write_str(operator_text(operator))?;
     f.write_str(" ")?;
-    write_literal(literal, f)
+    write_literal(word_at(words, 0), literal, f)
 }
 
 /// Writes whether a column is null, or is not.
@@ -247,12 +282,17 @@ fn separator(index: usize) -> &'static str
 }
 
 /// Writes literals with commas between them.
-fn write_literals<W: Write>(literals: &[Scalar], f: &mut Formatter<W>) -> fmt::Result
-    ensures { WritesOnOk W.write_str_gives f.old result (literals_text (map cell_of literals.now)) f.new }
+fn write_literals<W: Write>(
+    literals: &[Scalar],
+    words: &[Option<Word>],
+    f: &mut Formatter<W>,
+) -> fmt::Result
+    ensures { WritesOnOk W.write_str_gives f.old result
+        (literals_text (word_trees words.now) (map cell_of literals.now)) f.new }
 {
     for (index, literal) in literals.iter().enumerate() {
         f.write_str(separator(index))?;
-        write_literal(literal, f)?;
+        write_literal(word_at(words, index), literal, f)?;
     }
     Ok(())
 }
@@ -263,14 +303,15 @@ fn write_membership<W: Write>(
     literals: &[Scalar],
     is_negated: bool,
     columns: &[Column],
+    words: &[Option<Word>],
     f: &mut Formatter<W>,
 ) -> fmt::Result
-    ensures { WritesOnOk W.write_str_gives f.old result
-        (membership_text (names_of columns.now) column is_negated (map cell_of literals.now)) f.new }
+    ensures { WritesOnOk W.write_str_gives f.old result (membership_text (names_of columns.now)
+        (word_trees words.now) column is_negated (map cell_of literals.now)) f.new }
 {
     write_column(column, columns, f)?;
     f.write_str(if is_negated { " not in (" } else { " in (" })?;
-    write_literals(literals, f)?;
+    write_literals(literals, words, f)?;
     f.write_str(")")
 }
 
@@ -281,10 +322,11 @@ fn write_range<W: Write>(
     upper: &Scalar,
     is_negated: bool,
     columns: &[Column],
+    words: &[Option<Word>],
     f: &mut Formatter<W>,
 ) -> fmt::Result
-    ensures { WritesOnOk W.write_str_gives f.old result
-        (range_text (names_of columns.now) column is_negated (cell_of lower.now) (cell_of upper.now)) f.new }
+    ensures { WritesOnOk W.write_str_gives f.old result (range_text (names_of columns.now)
+        (word_trees words.now) column is_negated (cell_of lower.now) (cell_of upper.now)) f.new }
 {
     write_column(column, columns, f)?;
     f.write_str(if is_negated {
@@ -292,9 +334,9 @@ fn write_range<W: Write>(
     } else {
         " between "
     })?;
-    write_literal(lower, f)?;
+    write_literal(word_at(words, 0), lower, f)?;
     f.write_str(" and ")?;
-    write_literal(upper, f)
+    write_literal(word_at(words, 1), upper, f)
 }
 
 /// Whether a byte has a meaning of its own in a pattern.
@@ -327,14 +369,15 @@ fn write_prefix<W: Write>(
     column: usize,
     prefix: &Scalar,
     columns: &[Column],
+    words: &[Option<Word>],
     f: &mut Formatter<W>,
 ) -> fmt::Result
-    ensures { WritesOnOk W.write_str_gives f.old result
-        (prefix_text (names_of columns.now) column (scalar_content prefix.now)) f.new }
+    ensures { WritesOnOk W.write_str_gives f.old result (prefix_text (names_of columns.now) column
+        (literal_text (first_word (word_trees words.now)) (cell_of prefix.now)) (scalar_content prefix.now)) f.new }
 {
     match prefix.value() {
         Some(ScalarValue::Utf8(text)) => write_like(column, text.as_str(), columns, f),
-        _ => write_starts_with(column, prefix, columns, f),
+        _ => write_starts_with(column, prefix, columns, words, f),
     }
 }
 
@@ -356,15 +399,16 @@ fn write_starts_with<W: Write>(
     column: usize,
     prefix: &Scalar,
     columns: &[Column],
+    words: &[Option<Word>],
     f: &mut Formatter<W>,
 ) -> fmt::Result
-    ensures { WritesOnOk W.write_str_gives f.old result
-        (starts_with_text (names_of columns.now) column (scalar_content prefix.now)) f.new }
+    ensures { WritesOnOk W.write_str_gives f.old result (starts_with_text (names_of columns.now) column
+        (literal_text (first_word (word_trees words.now)) (cell_of prefix.now))) f.new }
 {
     f.write_str("starts_with(")?;
     write_column(column, columns, f)?;
     f.write_str(", ")?;
-    write_literal(prefix, f)?;
+    write_literal(word_at(words, 0), prefix, f)?;
     f.write_str(")")
 }
 
@@ -381,10 +425,11 @@ fn write_filter<W: Write>(
     filter: &Filter,
     level: Level,
     columns: &[Column],
+    words: &[Option<Word>],
     f: &mut Formatter<W>,
 ) -> fmt::Result
     ensures { WritesOnOk W.write_str_gives f.old result
-        (text_at (names_of columns.now) level (formula filter.now)) f.new }
+        (text_at (names_of columns.now) (word_trees words.now) level (formula filter.now)) f.new }
 {
     match filter {
         Filter::Constant(truth) => f.write_str(constant_text(*truth)),
@@ -392,18 +437,20 @@ fn write_filter<W: Write>(
             column,
             operator,
             literal,
-        } => write_comparison(*column, *operator, literal, columns, f),
+        } => write_comparison(*column, *operator, literal, columns, words, f),
         Filter::IsNull { column } => write_null_test(*column, false, columns, f),
-        Filter::In { column, literals } => write_membership(*column, literals, false, columns, f),
+        Filter::In { column, literals } => write_membership(
+            *column, literals, false, columns, words, f,
+        ),
         Filter::Between {
             column,
             lower,
             upper,
-        } => write_range(*column, lower, upper, false, columns, f),
-        Filter::StartsWith { column, prefix } => write_prefix(*column, prefix, columns, f),
-        Filter::And(left, right) => write_and(left, right, level == Level::Not, columns, f),
-        Filter::Or(left, right) => write_or(left, right, level != Level::Or, columns, f),
-        Filter::Not(filter) => write_not(filter, columns, f),
+        } => write_range(*column, lower, upper, false, columns, words, f),
+        Filter::StartsWith { column, prefix } => write_prefix(*column, prefix, columns, words, f),
+        Filter::And(left, right) => write_and(left, right, level == Level::Not, columns, words, f),
+        Filter::Or(left, right) => write_or(left, right, level != Level::Or, columns, words, f),
+        Filter::Not(filter) => write_not(filter, columns, words, f),
     }
 }
 
@@ -414,15 +461,17 @@ fn write_and<W: Write>(
     right: &Filter,
     is_grouped: bool,
     columns: &[Column],
+    words: &[Option<Word>],
     f: &mut Formatter<W>,
 ) -> fmt::Result
     ensures { WritesOnOk W.write_str_gives f.old result
-        (group_text is_grouped (and_text (names_of columns.now) (formula left.now) (formula right.now))) f.new }
+        (group_text is_grouped (and_text (names_of columns.now) (word_trees words.now)
+        (formula left.now) (formula right.now))) f.new }
 {
     write_if(is_grouped, "(", f)?;
-    write_filter(left, Level::Not, columns, f)?;
+    write_filter(left, Level::Not, columns, words, f)?;
     f.write_str(" and ")?;
-    write_filter(right, Level::And, columns, f)?;
+    write_filter(right, Level::And, columns, words_behind(left, words), f)?;
     write_if(is_grouped, ")", f)
 }
 
@@ -433,64 +482,84 @@ fn write_or<W: Write>(
     right: &Filter,
     is_grouped: bool,
     columns: &[Column],
+    words: &[Option<Word>],
     f: &mut Formatter<W>,
 ) -> fmt::Result
     ensures { WritesOnOk W.write_str_gives f.old result
-        (group_text is_grouped (or_text (names_of columns.now) (formula left.now) (formula right.now))) f.new }
+        (group_text is_grouped (or_text (names_of columns.now) (word_trees words.now)
+        (formula left.now) (formula right.now))) f.new }
 {
     write_if(is_grouped, "(", f)?;
-    write_filter(left, Level::And, columns, f)?;
+    write_filter(left, Level::And, columns, words, f)?;
     f.write_str(" or ")?;
-    write_filter(right, Level::Or, columns, f)?;
+    write_filter(right, Level::Or, columns, words_behind(left, words), f)?;
     write_if(is_grouped, ")", f)
 }
 
 /// Writes that a filter does not hold: `is not null`, `not in` and `not between` of one column, and
 /// `not` before any other.
 #[cycle(sql)]
-fn write_not<W: Write>(filter: &Filter, columns: &[Column], f: &mut Formatter<W>) -> fmt::Result
+fn write_not<W: Write>(
+    filter: &Filter,
+    columns: &[Column],
+    words: &[Option<Word>],
+    f: &mut Formatter<W>,
+) -> fmt::Result
     ensures { WritesOnOk W.write_str_gives f.old result
-        (text_at (names_of columns.now) Level.Not (negation (formula filter.now))) f.new }
+        (text_at (names_of columns.now) (word_trees words.now) Level.Not (negation (formula filter.now))) f.new }
 {
     match filter {
         Filter::IsNull { column } => write_null_test(*column, true, columns, f),
-        Filter::In { column, literals } => write_membership(*column, literals, true, columns, f),
+        Filter::In { column, literals } => write_membership(
+            *column, literals, true, columns, words, f,
+        ),
         Filter::Between {
             column,
             lower,
             upper,
-        } => write_range(*column, lower, upper, true, columns, f),
-        Filter::Constant(_) => write_denial(filter, columns, f),
-        Filter::Compare { .. } => write_denial(filter, columns, f),
-        Filter::StartsWith { .. } => write_denial(filter, columns, f),
-        Filter::And(_, _) => write_denial(filter, columns, f),
-        Filter::Or(_, _) => write_denial(filter, columns, f),
-        Filter::Not(_) => write_denial(filter, columns, f),
+        } => write_range(*column, lower, upper, true, columns, words, f),
+        Filter::Constant(_) => write_denial(filter, columns, words, f),
+        Filter::Compare { .. } => write_denial(filter, columns, words, f),
+        Filter::StartsWith { .. } => write_denial(filter, columns, words, f),
+        Filter::And(_, _) => write_denial(filter, columns, words, f),
+        Filter::Or(_, _) => write_denial(filter, columns, words, f),
+        Filter::Not(_) => write_denial(filter, columns, words, f),
     }
 }
 
 /// Writes `not` and the filter.
 #[cycle(sql)]
-fn write_denial<W: Write>(filter: &Filter, columns: &[Column], f: &mut Formatter<W>) -> fmt::Result
+fn write_denial<W: Write>(
+    filter: &Filter,
+    columns: &[Column],
+    words: &[Option<Word>],
+    f: &mut Formatter<W>,
+) -> fmt::Result
     ensures { WritesOnOk W.write_str_gives f.old result
-        (codes "not " ++ text_at (names_of columns.now) Level.Not (formula filter.now)) f.new }
+        (codes "not " ++ text_at (names_of columns.now) (word_trees words.now) Level.Not (formula filter.now)) f.new }
 {
     f.write_str("not ")?;
-    write_filter(filter, Level::Not, columns, f)
+    write_filter(filter, Level::Not, columns, words, f)
 }
 
 /// Writes a whole filter.
-fn write_sql<W: Write>(filter: &Filter, columns: &[Column], f: &mut Formatter<W>) -> fmt::Result
-    ensures { WritesOnOk W.write_str_gives f.old result (sql_text (names_of columns.now) (formula filter.now)) f.new }
+fn write_sql<W: Write>(
+    filter: &Filter,
+    columns: &[Column],
+    words: &[Option<Word>],
+    f: &mut Formatter<W>,
+) -> fmt::Result
+    ensures { WritesOnOk W.write_str_gives f.old result
+        (sql_text (names_of columns.now) (word_trees words.now) (formula filter.now)) f.new }
 {
-    write_filter(filter, Level::Or, columns, f)
+    write_filter(filter, Level::Or, columns, words, f)
 }
 
 /// Writes SQL, with the names of the columns.
 impl Display for Sql<'_> {
-    ghost output = { λ sql. Some (sql_text (names_of sql.columns.now) (formula sql.filter.now)) };
+    ghost output = { λ sql. Some (written_text sql) };
 
     fn fmt<W: Write>(&self, f: &mut Formatter<W>) -> fmt::Result {
-        write_sql(self.filter, self.columns, f)
+        write_sql(self.filter, self.columns, &self.words, f)
     }
 }

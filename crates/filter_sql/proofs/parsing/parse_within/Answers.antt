@@ -3,7 +3,7 @@ use Rattle.std.proofs.lemmas.Result.{err_from_is_err_and}
 use Rattle.filter_sql.specs.ColumnNames.{column_trees}
 use Rattle.filter_sql.specs.Printing.{tokens_of}
 use Rattle.filter_sql.proofs.ParseSteps.{result_fits, result_is_sql, result_placed, result_refuses, result_reads_back}
-use Rattle.filter_sql.proofs.PrintLaws.{text_tokens}
+use Rattle.filter_sql.proofs.PrintLaws.{LiteralLaws, text_tokens}
 use Rattle.filter_sql.proofs.parsing.parse_within.Goals as goal
 
 pub returns-in_err-lexed-clause-printed : goal.returns-in_err-lexed-clause-printed
@@ -20,8 +20,9 @@ returns-clause-read c =
 
 pub returns-clause-printed : goal.returns-clause-printed
 returns-clause-printed c = λ names f readable deep is.
-    result_reads_back c.integers_lie_at_themselves.ensures c.args.depth (column_trees c.args.columns.now) names c.deref.result.now c.in_ok-lexed.lexed.ending f readable deep
-    (rw c.deref.ensures.value (c.in_ok-lexed.ensures.canonical (tokens_of names f) (text_tokens c.integers_lie_at_themselves.ensures (column_trees c.args.columns.now) names f c.args.depth readable deep) is)) c.filter_in.result c.filter_in.ensures.given c.filter_in.ensures.refused
+    let laws : LiteralLaws = record { integers = c.integers_lie_at_themselves.ensures; types = c.shapes_say_types.ensures.says; words = c.shapes_say_words.ensures } in
+    result_reads_back laws c.args.depth (column_trees c.args.columns.now) names c.deref.result.now c.in_ok-lexed.lexed.ending is.words f is.are readable deep
+    (rw c.deref.ensures.value (c.in_ok-lexed.ensures.canonical (tokens_of names is.words f) (text_tokens laws (column_trees c.args.columns.now) names is.words f c.args.depth is.are readable deep) is.text)) c.filter_in.result c.filter_in.ensures.given c.filter_in.ensures.refused
 
 pub returns-clause-refused : goal.returns-clause-refused
 returns-clause-refused c =

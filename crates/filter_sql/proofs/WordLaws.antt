@@ -1,0 +1,232 @@
+-- The words of literals: of one, of several, and of none where no literal is of a logical type.
+use mir.Syntax.{w128}
+use Rattle.std.proofs.Common.{◌≡◌, ◌≢◌, ◌↔◌, ◌||◌, ◌<◌, ◌^◌, ℕ, zero, suc, ℤ, FitsSigned, Bool, true, false, List, [], ◌∷◌, ◌++◌, length, drop, Option, Some, None, append_assoc, append-nil, unsigned_abs, refl, sym, ap, subst, ◌∙◌}
+use Rattle.std.specs.Prelude.{is_some, map, option_map, slice_get}
+use Rattle.std.specs.List.{list_any}
+use Rattle.std.specs.Cmp.{int_cmp_is}
+use Rattle.std.specs.Cmp.Lexicographic.{slice_cmp}
+use Rattle.std.specs.Ordering.{int_cmp, nat_cmp}
+use Rattle.std.specs.declared.cmp.Ordering.TheVariants.{Equal}
+use Rattle.std.proofs.lemmas.List.{drop-map}
+use Rattle.std.proofs.lemmas.Map.Lookups.{exact_signed}
+use Rattle.std.proofs.lemmas.Option.{slice_get-map}
+use Rattle.vortex_dtype.specs.TypeTree.{TypeTree}
+use Rattle.vortex_cells.specs.Cells.{Cell}
+use Rattle.vortex_value.specs.Values.Content.{Content, whole, string}
+use Rattle.vortex_filter.specs.Formula.{Formula, constant, comparison, null_test, membership, range, prefix_test, both, either, negation}
+use Rattle.vortex_filter.specs.Literals.{storage_content}
+use Rattle.vortex_filter.specs.declared.operator.CompareOperator.{CompareOperator}
+use Rattle.logical_scalars.specs.Stored.{IsOfLogicalType}
+use Rattle.logical_scalars.specs.TypeShapes.{shape_in}
+use Rattle.logical_types.specs.Clock.{IsTimeOfDay}
+use Rattle.logical_types.specs.Extensions.{FitsStorage, storage_type_of}
+use Rattle.logical_types.specs.Shapes.{Shape, shape_of, stored_as}
+use Rattle.logical_types.specs.Storing.{decimal_bytes}
+use Rattle.logical_types.specs.Times.{IsTimestamp}
+use Rattle.logical_types.specs.Words.{IsStorageOf, Writes}
+use Rattle.logical_types.specs.declared.extensions.StorageType.{StorageType}
+use Rattle.logical_types.specs.declared.extensions.StorageType.TheVariants.{I32, I64, Bytes}
+use Rattle.logical_types.specs.declared.logical.LogicalType.{LogicalType}
+use Rattle.logical_types.specs.declared.logical.LogicalType.TheVariants.{Float64, Float32, Decimal, Date, Time, Timestamp}
+use Rattle.logical_types.specs.declared.times.TimeUnit.{TimeUnit}
+use Rattle.logical_types.specs.declared.times.TimeUnit.TheVariants.{Seconds, Milliseconds, Microseconds, Nanoseconds}
+use Rattle.filter_sql.specs.Choosing.{AddsEach, AddsWord, AddsWords, has_logical, is_logical_cell}
+use Rattle.filter_sql.specs.LiteralWords.{AreWordsOf, AreWordsOfEach, IsLogicalValue, IsWordOf, LiteralWords, WordTree, WritesCell, first_word, is_logical, printed_word, word_tree, word_trees, words_behind}
+use Rattle.filter_sql.specs.declared.literal_words.Word.{Word}
+
+-- ---- logical types and their shapes
+
+-- what the law of types says
+abbrev pub TypesSay : Type 0
+TypesSay = (l : LogicalType) (t : TypeTree) → (shape_in t ≡ Some (shape_of l)) ↔ IsOfLogicalType t l
+
+pub shape_at : TypesSay → (t : TypeTree) (l : LogicalType) → IsOfLogicalType t l → shape_in t ≡ Some (shape_of l)
+shape_at say t l is = (say l t).1 is
+
+pub is_one : TypesSay → (t : TypeTree) (l : LogicalType) → IsOfLogicalType t l → is_logical t ≡ true
+is_one say t l is = ap is_some (shape_at say t l is)
+
+one_shape : (s q : Shape) → Some s ≡ Some q → s ≡ q
+one_shape s q e = cc
+
+same_shape : TypesSay → (t : TypeTree) (l m : LogicalType) → IsOfLogicalType t l → IsOfLogicalType t m → shape_of l ≡ shape_of m
+same_shape say t l m a b = one_shape (shape_of l) (shape_of m) (sym (shape_at say t l a) ∙ shape_at say t m b)
+
+pub stored_by : (l : LogicalType) → storage_type_of l ≡ stored_as (shape_of l)
+stored_by Float64 = refl
+stored_by Float32 = refl
+stored_by (Decimal d) = refl
+stored_by Date = refl
+stored_by (Time Seconds) = refl
+stored_by (Time Milliseconds) = refl
+stored_by (Time Microseconds) = refl
+stored_by (Time Nanoseconds) = refl
+stored_by (Timestamp unit zoned) = refl
+
+-- values go by the shape
+same_values : (l m : LogicalType) (z : ℤ) → shape_of l ≡ shape_of m → IsStorageOf l z → IsStorageOf m z
+same_values Float64 Float64 z e h = h
+same_values Float32 Float32 z e h = h
+same_values (Decimal d) (Decimal c) z e h = let same : d.precision ≡ c.precision = cc in subst (λ (n : ℕ). unsigned_abs z < 10 ^ n) same h
+same_values Date Date z e h = h
+same_values (Time u) (Time v) z e h = let same : u ≡ v = cc in subst (λ (w : TimeUnit). IsTimeOfDay w z) same h
+same_values (Timestamp u a) (Timestamp v b) z e h = let same : u ≡ v = cc in subst (λ (w : TimeUnit). IsTimestamp w z) same h
+same_values _ _ z e h = absurd cc
+
+-- ---- the value of a cell
+
+-- a value of one logical type is that of any which its type is
+same_value : TypesSay → (l m : LogicalType) (z : ℤ) (x : Cell) → IsOfLogicalType x.typed m → IsLogicalValue l z x → IsLogicalValue m z x
+same_value say l m z x of is =
+    let shape : shape_of l ≡ shape_of m = same_shape say x.typed l m is.typed of in
+    let kind : storage_type_of l ≡ storage_type_of m = stored_by l ∙ ap stored_as shape ∙ sym (stored_by m) in
+    record { typed = of; value = same_values l m z shape is.value; stored = subst (λ (k : StorageType). x.content ≡ storage_content k z) kind is.stored }
+
+-- where no value of the type is stored, there is no word
+pub no_value : TypesSay → (m : LogicalType) (x : Cell) → IsOfLogicalType x.typed m → ((z : ℤ) → IsLogicalValue m z x → ⊥) → IsWordOf None x
+no_value say m x of none = λ l z is. none z (same_value say l m z x of is)
+
+abbrev pub BytesSort : Type 0
+BytesSort = (x y : ℤ) → FitsSigned w128 x → FitsSigned w128 y → slice_cmp nat_cmp (decimal_bytes x) (decimal_bytes y) ≡ int_cmp x y
+
+-- bytes store one number
+one_number : BytesSort → (y z : ℤ) → FitsSigned w128 y → FitsSigned w128 z → decimal_bytes y ≡ decimal_bytes z → y ≡ z
+one_number sort y z a b e = exact_signed y z (sym (sort y z a b) ∙ ap (λ (bs : List ℕ). slice_cmp nat_cmp bs (decimal_bytes z)) e ∙ sort z z b b ∙ itself z)
+  where
+    itself : (z : ℤ) → int_cmp z z ≡ Equal
+    itself z = sym (int_cmp_is z z Equal refl)
+
+-- contents store one number
+pub one_storage : BytesSort → (k : StorageType) (y z : ℤ) → FitsStorage k y → FitsSigned w128 z → storage_content k y ≡ storage_content k z → y ≡ z
+one_storage sort I32 y z a b e = cc
+one_storage sort I64 y z a b e = cc
+one_storage sort Bytes y z a b e = let same : decimal_bytes y ≡ decimal_bytes z = cc in one_number sort y z a b same
+
+-- ---- literals that have no words
+
+or_false : (a b : Bool) → (a || b) ≡ false → (a ≡ false) × (b ≡ false)
+or_false true b e = absurd cc
+or_false false b e = (refl, e)
+
+plain_cell : TypesSay → (x : Cell) → is_logical_cell x ≡ false → IsWordOf None x
+plain_cell say x plain = λ l z is. let both : true ≡ false = sym (is_one say x.typed l is.typed) ∙ plain in absurd cc
+
+plain_each : TypesSay → (xs : List Cell) → list_any is_logical_cell xs ≡ false → AreWordsOfEach [] xs
+plain_each say [] h = tt
+plain_each say (x ∷ xs) h = let p = or_false (is_logical_cell x) (list_any is_logical_cell xs) h in (plain_cell say x p.0, plain_each say xs p.1)
+
+none_left : (n : ℕ) → ◌≡◌ {A = LiteralWords} (drop n []) []
+none_left zero = refl
+none_left (suc n) = refl
+
+none_behind : (f : Formula) → words_behind f [] ≡ []
+none_behind (constant t) = refl
+none_behind (comparison k op x) = refl
+none_behind (null_test k) = refl
+none_behind (membership k xs) = none_left (length xs)
+none_behind (range k x y) = refl
+none_behind (prefix_test k x) = refl
+none_behind (both p q) = ap (words_behind q) (none_behind p) ∙ none_behind q
+none_behind (either p q) = ap (words_behind q) (none_behind p) ∙ none_behind q
+none_behind (negation p) = none_behind p
+
+no_words_then : (p q : Formula) → AreWordsOf [] q → AreWordsOf (words_behind p []) q
+no_words_then p q are = subst (λ (ws : LiteralWords). AreWordsOf ws q) (sym (none_behind p)) are
+
+-- no literal of a formula without logical types has a word
+pub no_words : TypesSay → (f : Formula) → has_logical f ≡ false → AreWordsOf [] f
+no_words say (constant t) h = tt
+no_words say (comparison k op x) h = plain_cell say x h
+no_words say (null_test k) h = tt
+no_words say (membership k xs) h = plain_each say xs h
+no_words say (range k x y) h = let p = or_false (is_logical_cell x) (is_logical_cell y) h in (plain_cell say x p.0, plain_cell say y p.1)
+no_words say (prefix_test k x) h = plain_cell say x h
+no_words say (both p q) h = let w = or_false (has_logical p) (has_logical q) h in (no_words say p w.0, no_words_then p q (no_words say q w.1))
+no_words say (either p q) h = let w = or_false (has_logical p) (has_logical q) h in (no_words say p w.0, no_words_then p q (no_words say q w.1))
+no_words say (negation p) h = no_words say p h
+
+-- ---- words that are gathered
+
+pub all_added : (f : Formula) (ws : LiteralWords) → AddsWords f [] ws → AreWordsOf ws f
+all_added f ws h = subst (λ (vs : LiteralWords). AreWordsOf vs f) (append-nil h.words ∙ sym h.added) (h.are [])
+
+pub none_added : (xs : List Cell) (ws : LiteralWords) → xs ≡ [] → AddsEach xs ws ws
+none_added xs ws e = subst (λ (ys : List Cell). AddsEach ys ws ws) (sym e) (record { words = []; are = λ rest. tt; ends = λ rest. refl; added = sym (append-nil ws) })
+
+-- one literal and those behind it
+pub more_added : (x : Cell) (xs : List Cell) (old mid now : LiteralWords) → AddsWord x old mid → AddsEach xs mid now → AddsEach (x ∷ xs) old now
+more_added x xs old mid now a b = record {
+  words = a.word ∷ b.words;
+  are = λ rest. (a.is, b.are rest);
+  ends = λ rest. b.ends rest;
+  added = b.added ∙ ap (λ (ws : LiteralWords). ws ++ b.words) a.added ∙ append_assoc old (a.word ∷ []) b.words;
+}
+
+pub constant_added : (t : _) (ws : LiteralWords) → AddsWords (constant t) ws ws
+constant_added t ws = record { words = []; are = λ rest. tt; ends = λ rest. refl; added = sym (append-nil ws) }
+
+pub null_test_added : (k : ℕ) (ws : LiteralWords) → AddsWords (null_test k) ws ws
+null_test_added k ws = record { words = []; are = λ rest. tt; ends = λ rest. refl; added = sym (append-nil ws) }
+
+pub comparison_added : (k : ℕ) (op : CompareOperator) (x : Cell) (old now : LiteralWords) → AddsWord x old now → AddsWords (comparison k op x) old now
+comparison_added k op x old now a = record { words = a.word ∷ []; are = λ rest. a.is; ends = λ rest. refl; added = a.added }
+
+pub prefix_added : (k : ℕ) (x : Cell) (old now : LiteralWords) → AddsWord x old now → AddsWords (prefix_test k x) old now
+prefix_added k x old now a = record { words = a.word ∷ []; are = λ rest. a.is; ends = λ rest. refl; added = a.added }
+
+pub membership_added : (k : ℕ) (xs : List Cell) (old now : LiteralWords) → AddsEach xs old now → AddsWords (membership k xs) old now
+membership_added k xs old now a = record { words = a.words; are = a.are; ends = a.ends; added = a.added }
+
+pub range_added : (k : ℕ) (x y : Cell) (old mid now : LiteralWords) → AddsWord x old mid → AddsWord y mid now → AddsWords (range k x y) old now
+range_added k x y old mid now a b = record {
+  words = a.word ∷ b.word ∷ [];
+  are = λ rest. (a.is, b.is);
+  ends = λ rest. refl;
+  added = b.added ∙ ap (λ (ws : LiteralWords). ws ++ b.word ∷ []) a.added ∙ append_assoc old (a.word ∷ []) (b.word ∷ []);
+}
+
+pub negation_added : (f : Formula) (old now : LiteralWords) → AddsWords f old now → AddsWords (negation f) old now
+negation_added f old now a = record { words = a.words; are = a.are; ends = a.ends; added = a.added }
+
+-- what two formulas have, one behind the other
+record AddsBoth (p q : Formula) (old now : LiteralWords) : Type 0 where
+  words : LiteralWords
+  first : (rest : LiteralWords) → AreWordsOf (words ++ rest) p
+  second : (rest : LiteralWords) → AreWordsOf (words_behind p (words ++ rest)) q
+  ends : (rest : LiteralWords) → words_behind q (words_behind p (words ++ rest)) ≡ rest
+  added : now ≡ old ++ words
+
+both_add : (p q : Formula) (old mid now : LiteralWords) → AddsWords p old mid → AddsWords q mid now → AddsBoth p q old now
+both_add p q old mid now a b = record {
+  words = a.words ++ b.words;
+  first = λ rest. subst (λ (ws : LiteralWords). AreWordsOf ws p) (sym (append_assoc a.words b.words rest)) (a.are (b.words ++ rest));
+  second = λ rest. subst (λ (ws : LiteralWords). AreWordsOf ws q) (sym (behind rest)) (b.are rest);
+  ends = λ rest. ap (words_behind q) (behind rest) ∙ b.ends rest;
+  added = b.added ∙ ap (λ (ws : LiteralWords). ws ++ b.words) a.added ∙ append_assoc old a.words b.words;
+}
+  where
+    behind : (rest : LiteralWords) → words_behind p ((a.words ++ b.words) ++ rest) ≡ b.words ++ rest
+    behind rest = ap (words_behind p) (append_assoc a.words b.words rest) ∙ a.ends (b.words ++ rest)
+
+pub both_added : (p q : Formula) (old mid now : LiteralWords) → AddsWords p old mid → AddsWords q mid now → AddsWords (both p q) old now
+both_added p q old mid now a b = let w = both_add p q old mid now a b in record { words = w.words; are = λ rest. (w.first rest, w.second rest); ends = w.ends; added = w.added }
+
+pub either_added : (p q : Formula) (old mid now : LiteralWords) → AddsWords p old mid → AddsWords q mid now → AddsWords (either p q) old now
+either_added p q old mid now a b = let w = both_add p q old mid now a b in record { words = w.words; are = λ rest. (w.first rest, w.second rest); ends = w.ends; added = w.added }
+
+pub ruleset gathered = (constant_added, null_test_added, comparison_added, prefix_added, membership_added, range_added, negation_added, both_added, either_added)
+
+-- ---- words that are looked up
+
+abbrev flat : Option (Option WordTree) → Option WordTree
+flat None = None
+flat (Some w) = w
+
+first_left : (ws : LiteralWords) (k : ℕ) → first_word (drop k ws) ≡ flat (slice_get ws k)
+first_left [] zero = refl
+first_left [] (suc k) = refl
+first_left (w ∷ ws) zero = refl
+first_left (w ∷ ws) (suc k) = first_left ws k
+
+pub word_there : (words : List (Option Word)) (k : ℕ) → first_word (drop k (word_trees words)) ≡ flat (option_map (option_map word_tree) (slice_get words k))
+word_there words k = first_left (word_trees words) k ∙ ap flat (slice_get-map (option_map word_tree) words k)
