@@ -51,26 +51,34 @@ expected ts what = faults.At (length ts) (causes.Expected what)
 abbrev pub too_deep : List TokenTree → TokenError
 too_deep ts = faults.At (length ts) causes.TooDeep
 
+-- why a literal is none of an extension: whether this is a logical type, which has literals but `null`
+abbrev pub extension_cause : TypeTree → Cause
+extension_cause t = if is_some (shape_in t) then causes.TypesDiffer else causes.NoLiteral
+
 -- why a literal of another kind is none of the type: whether the type has literals but `null`
 abbrev pub other_type : TypeTree → Cause
 other_type (bool_type n) = causes.TypesDiffer
 other_type (integer_type k n) = causes.TypesDiffer
 other_type (utf8_type n) = causes.TypesDiffer
 other_type (binary_type n) = causes.TypesDiffer
-other_type (extension_type id metadata u) = if is_some (shape_in (extension_type id metadata u)) then causes.TypesDiffer else causes.NoLiteral
+other_type (extension_type id metadata u) = extension_cause (extension_type id metadata u)
 other_type _ = causes.NoLiteral
 
--- whether the shape's values are numbers
+-- whether the values of a logical type are numbers
 abbrev pub is_numeric : Shape → Bool
 is_numeric float64 = true
 is_numeric float32 = true
 is_numeric (decimals precision scale) = true
 is_numeric _ = false
 
+-- whether the type is a logical one of numbers
+abbrev pub is_numeric_type : TypeTree → Bool
+is_numeric_type t = chosen (shape_in t) is_numeric false
+
 -- whether numbers are written in a column of the type
 abbrev pub holds_numbers : TypeTree → Bool
 holds_numbers (integer_type k n) = true
-holds_numbers (extension_type id metadata u) = chosen (shape_in (extension_type id metadata u)) is_numeric false
+holds_numbers (extension_type id metadata u) = is_numeric_type (extension_type id metadata u)
 holds_numbers _ = false
 
 -- why a number is none of the type: it is too long, or has an exponent, where numbers are written; or else of another type

@@ -26,9 +26,7 @@ use crate::parsing::tokens::{
 use crate::token::{Keyword, Placed};
 use std::alloc::Global;
 use vortex_dtype::DType;
-use vortex_filter::{
-    CompareOperator, Filter, comparison_of, member_of, range_of, with_position,
-};
+use vortex_filter::{CompareOperator, Filter, comparison_of, member_of, range_of, with_position};
 use vortex_value::Scalar;
 
 /// What follows the column's name.

@@ -3,14 +3,15 @@
 ghost use Rattle.std.specs.Prelude.{◌≡◌, IfOk};
 ghost use Rattle.std.specs.Option.{option_map};
 ghost use Rattle.vortex_dtype.specs.TypeOf.{type_of};
+ghost use Rattle.logical_types.specs.Shapes.{shape_of};
 ghost use Rattle.vortex_filter.specs.FilterLiterals.{AreValid, literals_of};
 ghost use Rattle.vortex_filter.specs.Formula.{formula};
 ghost use Rattle.vortex_filter.specs.Literals.{literal_tree, position_of};
 ghost use Rattle.vortex_filter.specs.Positions.{position_tree, prefix_of, scalars_of};
 ghost use Rattle.filter_sql.specs.Literals.{keyword_literal, literal_of};
 ghost use Rattle.filter_sql.specs.Tokens.{token_tree, trees};
-ghost use Rattle.filter_sql.specs.Mistakes.{Gives, holds_numbers, literal_cause, literal_mistake, other_type};
-ghost use Rattle.filter_sql.specs.Mistakes.{refusal};
+ghost use Rattle.filter_sql.specs.Mistakes.{Gives, extension_cause, holds_numbers, is_numeric, is_numeric_type};
+ghost use Rattle.filter_sql.specs.Mistakes.{literal_cause, literal_mistake, other_type, refusal};
 ghost use Rattle.filter_sql.specs.Reading.{position_at, string_in, token_position};
 
 use crate::error::Expected;
@@ -139,14 +140,31 @@ fn refusal(dtype: &DType, literal: Literal<'_>) -> Cause
 fn holds_numbers(dtype: &DType) -> bool
     ensures { result ≡ holds_numbers (type_of dtype.now) }
 {
-    shapes_say_types();
     match dtype {
         DType::Primitive(_, _) => true,
-        DType::Extension(_) => matches!(
-            logical_type_of(dtype),
-            Some(LogicalType::Float64 | LogicalType::Float32 | LogicalType::Decimal(_))
-        ),
+        DType::Extension(_) => is_numeric_type(dtype),
         _ => false,
+    }
+}
+
+/// Whether the type is a logical one of numbers.
+fn is_numeric_type(dtype: &DType) -> bool
+    ensures { result ≡ is_numeric_type (type_of dtype.now) }
+{
+    shapes_say_types();
+    match logical_type_of(dtype) {
+        Some(logical) => is_numeric(logical),
+        None => false,
+    }
+}
+
+/// Whether the values of a logical type are numbers.
+fn is_numeric(logical: LogicalType) -> bool
+    ensures { result ≡ is_numeric (shape_of logical) }
+{
+    match logical {
+        LogicalType::Float64 | LogicalType::Float32 | LogicalType::Decimal(_) => true,
+        LogicalType::Date | LogicalType::Time(_) | LogicalType::Timestamp { .. } => false,
     }
 }
 
@@ -154,13 +172,23 @@ fn holds_numbers(dtype: &DType) -> bool
 fn other_type(dtype: &DType) -> Cause
     ensures { result ≡ other_type (type_of dtype.now) }
 {
-    shapes_say_types();
     match dtype {
         DType::Bool(_) | DType::Primitive(_, _) | DType::Utf8(_) | DType::Binary(_) => {
             Cause::TypesDiffer
         }
-        DType::Extension(_) if logical_type_of(dtype).is_some() => Cause::TypesDiffer,
+        DType::Extension(_) => extension_cause(dtype),
         _ => Cause::NoLiteral,
+    }
+}
+
+/// Why a literal is none of an extension: whether this is a logical type.
+fn extension_cause(dtype: &DType) -> Cause
+    ensures { result ≡ extension_cause (type_of dtype.now) }
+{
+    shapes_say_types();
+    match logical_type_of(dtype) {
+        Some(_) => Cause::TypesDiffer,
+        None => Cause::NoLiteral,
     }
 }
 
