@@ -306,7 +306,7 @@ enum {
     DOQALLIN_NO_COLUMN,          /* no column has this name */
     DOQALLIN_TYPES_DIFFER,       /* the literal is of another type than the column */
     DOQALLIN_NO_LITERAL,         /* no literal but null is of the column's type */
-    DOQALLIN_NUMBER_TOO_LONG,    /* the number is 2^64 or more */
+    DOQALLIN_NUMBER_TOO_LONG,    /* no value of the column's type is written as the number */
     DOQALLIN_BAD_TEXT,           /* no token begins here, or it does not end */
     DOQALLIN_TOO_DEEP            /* more connectives and parentheses nest than may */
 };

@@ -487,7 +487,7 @@ static void prepared_filters(void) {
     CHECK(prepare("n > ", 2) == DOQALLIN_BAD_FILTER && at_mistake(4, DOQALLIN_EXPECTED_LITERAL));
     CHECK(prepare("n is not", 2) == DOQALLIN_BAD_FILTER && at_mistake(8, DOQALLIN_EXPECTED_NULL));
     CHECK(prepare("n > 5 or t = 1", 2) == DOQALLIN_BAD_FILTER && at_mistake(9, DOQALLIN_NO_COLUMN));
-    CHECK(prepare("n > 99999999999999999999", 2) == DOQALLIN_BAD_FILTER && at_mistake(4, DOQALLIN_NUMBER_TOO_LONG));
+    CHECK(prepare("n > 1e20", 2) == DOQALLIN_BAD_FILTER && at_mistake(4, DOQALLIN_NUMBER_TOO_LONG));
     CHECK(prepare("n > 5 'a", 2) == DOQALLIN_BAD_FILTER && at_mistake(6, DOQALLIN_BAD_TEXT));
     CHECK(prepare("n > 5 n", 2) == DOQALLIN_BAD_FILTER && at_mistake(6, DOQALLIN_EXPECTED_END));
     CHECK(prepare("s = '\xff'", 2) == DOQALLIN_NOT_UTF8 && at_mistake(2, 0) && count == 77 && is_kept(buffer, 0));

@@ -40,7 +40,7 @@ _MISTAKES = (
     "no such column",
     "a literal of another type than the column",
     "no literal is of the column's type",
-    "the number is too long",
+    "no value of the column's type is written as the number",
     "no token",
     "nested too deep",
 )

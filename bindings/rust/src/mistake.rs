@@ -42,7 +42,7 @@ mistakes! {
     NoColumn "no such column"
     TypesDiffer "a literal of another type than the column"
     NoLiteral "no literal but null is of the column's type"
-    NumberTooLong "the number is too long"
+    NumberTooLong "no value of the column's type is written as the number"
     BadText "no token"
     TooDeep "nested too deep"
     ExpectedKind "expected a column's name, and its kind behind it"

@@ -1,5 +1,5 @@
 -- Worked cases of logical types and their words, each a theorem.
-use Rattle.std.specs.Prelude.{◌≡◌, pos, negsuc, true, false, [], ◌∷◌, Some, None, codes, refl}
+use Rattle.std.specs.Prelude.{◌≡◌, ⊤, pos, negsuc, true, false, [], ◌∷◌, Some, None, codes, refl}
 use Rattle.jiff_core.specs.Calendar.{day_count, days_from_civil, days_of_months, days_of_years}
 use Rattle.jiff_fmt.specs.Offset.{parse_optional}
 use Rattle.jiff_fmt.specs.Offset.{parse as parse_offset}
@@ -10,6 +10,11 @@ use Rattle.logical_types.specs.Shapes.{days, decimals, float64, place_in, shape_
 use Rattle.logical_types.specs.declared.decimals.places.DecimalPlace.TheVariants.{At, Behind, BelowAll, AboveAll}
 use Rattle.logical_types.specs.declared.extensions.StorageType.TheVariants.{I32, I64, Bytes}
 use Rattle.logical_types.specs.declared.times.TimeUnit.TheVariants.{Seconds, Milliseconds, Microseconds}
+
+-- what the proofs of dates and times compute by
+unfoldable pub on_words : ⊤
+unfolding annotations date_spec day_count days_from_civil days_of_months days_of_years field four_digits parse parse_offset parse_optional storage_in temporal_datetime temporal_fraction time_spec time_zone_annotation two_digits year
+on_words = tt
 
 -- ---- extensions
 
@@ -37,25 +42,25 @@ unfolding storage_in
 two_places = refl
 
 a_day : storage_in days (codes "2026-03-01") ≡ Some (pos 20513)
-unfolding annotations date_spec day_count days_from_civil days_of_months days_of_years field four_digits parse storage_in temporal_datetime time_zone_annotation two_digits year
+unfolding on_words
 a_day = refl
 
 no_day : storage_in days (codes "2026-03-01T14:00") ≡ None
-unfolding annotations date_spec field four_digits parse parse_optional storage_in temporal_datetime time_spec time_zone_annotation two_digits year
+unfolding on_words
 no_day = refl
 
 -- with a space, and with an offset where the type has a zone
 without_zone : storage_in (timestamps Microseconds false) (codes "2026-03-01 14:00") ≡ Some (pos 1772373600000000)
-unfolding annotations date_spec day_count days_from_civil days_of_months days_of_years field four_digits parse parse_offset parse_optional storage_in temporal_datetime temporal_fraction time_spec time_zone_annotation two_digits year
+unfolding on_words
 without_zone = refl
 
 with_zone : storage_in (timestamps Microseconds true) (codes "2026-03-01T15:00:00Z") ≡ Some (pos 1772377200000000)
-unfolding annotations date_spec day_count days_from_civil days_of_months days_of_years field four_digits parse parse_offset parse_optional storage_in temporal_datetime temporal_fraction time_spec time_zone_annotation two_digits year
+unfolding on_words
 with_zone = refl
 
 -- a date alone is its midnight where the type has no zone
 midnight : storage_in (timestamps Milliseconds false) (codes "2026-03-01") ≡ Some (pos 1772323200000)
-unfolding annotations date_spec day_count days_from_civil days_of_months days_of_years field four_digits parse storage_in temporal_datetime time_zone_annotation two_digits year
+unfolding on_words
 midnight = refl
 
 no_midnight : storage_in (timestamps Milliseconds true) (codes "2026-03-01") ≡ None

@@ -1,5 +1,6 @@
 mod ColumnRows
 mod FilterSteps
+mod FloatTruths
 mod GivenZeros
 mod KeySteps
 mod KeysCounted

@@ -12,6 +12,7 @@ pub mod filter_laws;
 pub mod filter_texts;
 #[cfg(test)]
 mod fixtures;
+pub mod float_zones;
 #[cfg(test)]
 mod hashers;
 pub mod indexes;

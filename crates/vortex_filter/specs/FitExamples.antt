@@ -6,6 +6,7 @@ use Rattle.vortex_dtype.specs.declared.nullability.Nullability.TheVariants.{NonN
 use Rattle.vortex_dtype.specs.declared.ptype.PType.TheVariants.{I16, I32, I64, U8}
 use Rattle.vortex_value.specs.Values.Content.{null, whole}
 use Rattle.vortex_cells.specs.Cells.{Cell}
+use Rattle.logical_types.specs.ShapeExamples.{on_words}
 use Rattle.logical_types.specs.Shapes.{place_in}
 use Rattle.vortex_filter.specs.declared.operator.CompareOperator.TheVariants.{Eq, NotEq, Gt, Gte, Lt, Lte}
 use Rattle.vortex_filter.specs.declared.truth.Truth.TheVariants.{Unknown, True}
@@ -154,6 +155,30 @@ above_prices : position_of prices (number_literal (codes "100000000")) ≡ Some 
 unfolding place_in
 above_prices = refl
 
+-- ---- days and timestamps
+
+abbrev days_column : TypeTree
+days_column = extension_type (codes "vortex.date") (4 ∷ []) (integer_type I32 Nullable)
+
+abbrev millis_column : TypeTree
+millis_column = extension_type (codes "vortex.timestamp") (2 ∷ 0 ∷ 0 ∷ []) (integer_type I64 Nullable)
+
+abbrev zoned_column : TypeTree
+zoned_column = extension_type (codes "vortex.timestamp") (2 ∷ 3 ∷ 0 ∷ codes "CET") (integer_type I64 Nullable)
+
 -- a number is no day
-no_day : position_of (extension_type (codes "vortex.date") (4 ∷ []) (integer_type I32 Nullable)) (number_literal (codes "2026")) ≡ None
+no_day : position_of days_column (number_literal (codes "2026")) ≡ None
 no_day = refl
+
+a_day : position_of days_column (text_literal (codes "2026-03-01")) ≡ Some (exactly (record { typed = days_column; content = whole (pos 20513) }))
+unfolding on_words
+a_day = refl
+
+-- a date alone is a day, and its midnight where the column has no zone
+midnight : position_of millis_column (text_literal (codes "2026-03-01")) ≡ Some (exactly (record { typed = millis_column; content = whole (pos 1772323200000) }))
+unfolding on_words
+midnight = refl
+
+no_midnight : position_of zoned_column (text_literal (codes "2026-03-01")) ≡ None
+unfolding on_words
+no_midnight = refl
