@@ -43,15 +43,17 @@ use Rattle.vortex_filter.specs.Literals.{LiteralTree, decimal_at, integer_at, in
 use Rattle.vortex_filter.specs.Positions.{PositionTree, exactly, lacking, cells_of, comparison_of, member_among, member_of}
 use Rattle.filter_sql.specs.Literals.{Condition, compared, missing, listed, between, begun, denied, formula_in, literal_of, pattern_prefix, positions_of, with_byte, is_wildcard}
 use Rattle.filter_sql.specs.Parsing.{IsValueLiteral, IsLiteral, IsFound, IsReadable, depth, depth_at}
+use Rattle.vortex_filter.specs.LogicalValues.{IsLogicalValue}
 use Rattle.filter_sql.specs.Lexing.{is_number}
-use Rattle.filter_sql.specs.LiteralWords.{AreWordsOf, AreWordsOfEach, IsLogicalValue, IsWordOf, LiteralWords, WordTree, WritesCell, bare_word, first_word, is_numeric, quoted_word, words_behind}
+use Rattle.filter_sql.specs.LiteralWords.{AreWordsOf, AreWordsOfEach, IsWordOf, LiteralWords, WordTree, WritesCell, bare_word, first_word, is_numeric, quoted_word, words_behind}
 use Rattle.filter_sql.specs.Printing.{column_token, integer_text, literal_token, literal_tokens, is_special, escaped_byte, prefix_pattern, prefix_tokens, starts_with_tokens, tokens_at, tokens_of}
 use Rattle.filter_sql.specs.Tokens.{TokenTree, IsNumber, IsToken, AreTokens, keyword_token, string_token, opening, closing, comma}
 use Rattle.filter_sql.proofs.ConditionSteps.{begun_says, between_says, stand_more}
 use Rattle.filter_sql.proofs.Again.{both_true}
 use Rattle.filter_sql.proofs.Taken.{whole_number}
 use Rattle.filter_sql.proofs.TestSteps.{step_escape, step_plain}
-use Rattle.filter_sql.proofs.WordLaws.{TypesSay, shape_at, stored_by}
+use Rattle.filter_sql.proofs.WordLaws.{shape_at}
+use Rattle.vortex_filter.proofs.LiteralTypes.{TypesSay, storage_is}
 
 tokens_append : (ts us : List TokenTree) → AreTokens ts → AreTokens us → AreTokens (ts ++ us)
 tokens_append [] us a b = b
@@ -151,7 +153,7 @@ same_cell x y e f =
     ap (λ (t : TypeTree). made t x.content) e ∙ ap (made y.typed) f
 
 value_cell : (t : TypeTree) (l : LogicalType) (z : ℤ) (x : Cell) → x.typed ≡ t → IsLogicalValue l z x → logical_cell t (shape_of l) z ≡ x
-value_cell t l z x same is = sym (same_cell x (logical_cell t (shape_of l) z) same (is.stored ∙ ap (λ (k : StorageType). storage_content k z) (stored_by l)))
+value_cell t l z x same is = sym (same_cell x (logical_cell t (shape_of l) z) same (is.stored ∙ ap (λ (k : StorageType). storage_content k z) (storage_is l)))
 
 -- the word of a value stands at it in a column of its type
 module _ (types : TypesSay) (words : WordsSay) (id metadata : List ℕ) (u : TypeTree) (x : Cell) (same : x.typed ≡ extension_type id metadata u) where

@@ -1,106 +1,28 @@
 -- The words of literals: of one, of several, and of none where no literal is of a logical type.
-use mir.Syntax.{w128}
-use Rattle.std.proofs.Common.{◌≡◌, ◌≢◌, ◌↔◌, ◌||◌, ◌<◌, ◌^◌, ℕ, zero, suc, ℤ, FitsSigned, Bool, true, false, List, [], ◌∷◌, ◌++◌, length, drop, Option, Some, None, append_assoc, append-nil, unsigned_abs, refl, sym, ap, subst, ◌∙◌}
-use Rattle.std.specs.Prelude.{is_some, map, option_map, slice_get}
+use Rattle.std.proofs.Common.{◌≡◌, ◌||◌, ℕ, zero, suc, Bool, true, false, List, [], ◌∷◌, ◌++◌, length, drop, Option, Some, None, append_assoc, append-nil, refl, sym, ap, subst, ◌∙◌}
+use Rattle.std.specs.Prelude.{is_some, option_map, slice_get}
 use Rattle.std.specs.List.{list_any}
-use Rattle.std.specs.Cmp.{int_cmp_is}
-use Rattle.std.specs.Cmp.Lexicographic.{slice_cmp}
-use Rattle.std.specs.Ordering.{int_cmp, nat_cmp}
-use Rattle.std.specs.declared.cmp.Ordering.TheVariants.{Equal}
-use Rattle.std.proofs.lemmas.List.{drop-map}
-use Rattle.std.proofs.lemmas.Map.Lookups.{exact_signed}
 use Rattle.std.proofs.lemmas.Option.{slice_get-map}
 use Rattle.vortex_dtype.specs.TypeTree.{TypeTree}
 use Rattle.vortex_cells.specs.Cells.{Cell}
-use Rattle.vortex_value.specs.Values.Content.{Content, whole, string}
 use Rattle.vortex_filter.specs.Formula.{Formula, constant, comparison, null_test, membership, range, prefix_test, both, either, negation}
-use Rattle.vortex_filter.specs.Literals.{storage_content}
 use Rattle.vortex_filter.specs.declared.operator.CompareOperator.{CompareOperator}
+use Rattle.vortex_filter.proofs.LiteralTypes.{TypesSay}
 use Rattle.logical_scalars.specs.Stored.{IsOfLogicalType}
 use Rattle.logical_scalars.specs.TypeShapes.{shape_in}
-use Rattle.logical_types.specs.Clock.{IsTimeOfDay}
-use Rattle.logical_types.specs.Extensions.{FitsStorage, storage_type_of}
-use Rattle.logical_types.specs.Shapes.{Shape, shape_of, stored_as}
-use Rattle.logical_types.specs.Storing.{decimal_bytes}
-use Rattle.logical_types.specs.Times.{IsTimestamp}
-use Rattle.logical_types.specs.Words.{IsStorageOf, Writes}
-use Rattle.logical_types.specs.declared.extensions.StorageType.{StorageType}
-use Rattle.logical_types.specs.declared.extensions.StorageType.TheVariants.{I32, I64, Bytes}
+use Rattle.logical_types.specs.Shapes.{shape_of}
 use Rattle.logical_types.specs.declared.logical.LogicalType.{LogicalType}
-use Rattle.logical_types.specs.declared.logical.LogicalType.TheVariants.{Float64, Float32, Decimal, Date, Time, Timestamp}
-use Rattle.logical_types.specs.declared.times.TimeUnit.{TimeUnit}
-use Rattle.logical_types.specs.declared.times.TimeUnit.TheVariants.{Seconds, Milliseconds, Microseconds, Nanoseconds}
 use Rattle.filter_sql.specs.Choosing.{AddsEach, AddsWord, AddsWords, has_logical, is_logical_cell}
-use Rattle.filter_sql.specs.LiteralWords.{AreWordsOf, AreWordsOfEach, IsLogicalValue, IsWordOf, LiteralWords, WordTree, WritesCell, first_word, is_logical, printed_word, word_tree, word_trees, words_behind}
+use Rattle.filter_sql.specs.LiteralWords.{AreWordsOf, AreWordsOfEach, IsWordOf, LiteralWords, WordTree, first_word, is_logical, word_tree, word_trees, words_behind}
 use Rattle.filter_sql.specs.declared.literal_words.Word.{Word}
 
--- ---- logical types and their shapes
-
--- what the law of types says
-abbrev pub TypesSay : Type 0
-TypesSay = (l : LogicalType) (t : TypeTree) → (shape_in t ≡ Some (shape_of l)) ↔ IsOfLogicalType t l
+-- ---- logical types
 
 pub shape_at : TypesSay → (t : TypeTree) (l : LogicalType) → IsOfLogicalType t l → shape_in t ≡ Some (shape_of l)
 shape_at say t l is = (say l t).1 is
 
 pub is_one : TypesSay → (t : TypeTree) (l : LogicalType) → IsOfLogicalType t l → is_logical t ≡ true
 is_one say t l is = ap is_some (shape_at say t l is)
-
-one_shape : (s q : Shape) → Some s ≡ Some q → s ≡ q
-one_shape s q e = cc
-
-same_shape : TypesSay → (t : TypeTree) (l m : LogicalType) → IsOfLogicalType t l → IsOfLogicalType t m → shape_of l ≡ shape_of m
-same_shape say t l m a b = one_shape (shape_of l) (shape_of m) (sym (shape_at say t l a) ∙ shape_at say t m b)
-
-pub stored_by : (l : LogicalType) → storage_type_of l ≡ stored_as (shape_of l)
-stored_by Float64 = refl
-stored_by Float32 = refl
-stored_by (Decimal d) = refl
-stored_by Date = refl
-stored_by (Time Seconds) = refl
-stored_by (Time Milliseconds) = refl
-stored_by (Time Microseconds) = refl
-stored_by (Time Nanoseconds) = refl
-stored_by (Timestamp unit zoned) = refl
-
--- values go by the shape
-same_values : (l m : LogicalType) (z : ℤ) → shape_of l ≡ shape_of m → IsStorageOf l z → IsStorageOf m z
-same_values Float64 Float64 z e h = h
-same_values Float32 Float32 z e h = h
-same_values (Decimal d) (Decimal c) z e h = let same : d.precision ≡ c.precision = cc in subst (λ (n : ℕ). unsigned_abs z < 10 ^ n) same h
-same_values Date Date z e h = h
-same_values (Time u) (Time v) z e h = let same : u ≡ v = cc in subst (λ (w : TimeUnit). IsTimeOfDay w z) same h
-same_values (Timestamp u a) (Timestamp v b) z e h = let same : u ≡ v = cc in subst (λ (w : TimeUnit). IsTimestamp w z) same h
-same_values _ _ z e h = absurd cc
-
--- ---- the value of a cell
-
--- a value of one logical type is that of any which its type is
-same_value : TypesSay → (l m : LogicalType) (z : ℤ) (x : Cell) → IsOfLogicalType x.typed m → IsLogicalValue l z x → IsLogicalValue m z x
-same_value say l m z x of is =
-    let shape : shape_of l ≡ shape_of m = same_shape say x.typed l m is.typed of in
-    let kind : storage_type_of l ≡ storage_type_of m = stored_by l ∙ ap stored_as shape ∙ sym (stored_by m) in
-    record { typed = of; value = same_values l m z shape is.value; stored = subst (λ (k : StorageType). x.content ≡ storage_content k z) kind is.stored }
-
--- where no value of the type is stored, there is no word
-pub no_value : TypesSay → (m : LogicalType) (x : Cell) → IsOfLogicalType x.typed m → ((z : ℤ) → IsLogicalValue m z x → ⊥) → IsWordOf None x
-no_value say m x of none = λ l z is. none z (same_value say l m z x of is)
-
-abbrev pub BytesSort : Type 0
-BytesSort = (x y : ℤ) → FitsSigned w128 x → FitsSigned w128 y → slice_cmp nat_cmp (decimal_bytes x) (decimal_bytes y) ≡ int_cmp x y
-
--- bytes store one number
-one_number : BytesSort → (y z : ℤ) → FitsSigned w128 y → FitsSigned w128 z → decimal_bytes y ≡ decimal_bytes z → y ≡ z
-one_number sort y z a b e = exact_signed y z (sym (sort y z a b) ∙ ap (λ (bs : List ℕ). slice_cmp nat_cmp bs (decimal_bytes z)) e ∙ sort z z b b ∙ itself z)
-  where
-    itself : (z : ℤ) → int_cmp z z ≡ Equal
-    itself z = sym (int_cmp_is z z Equal refl)
-
--- contents store one number
-pub one_storage : BytesSort → (k : StorageType) (y z : ℤ) → FitsStorage k y → FitsSigned w128 z → storage_content k y ≡ storage_content k z → y ≡ z
-one_storage sort I32 y z a b e = cc
-one_storage sort I64 y z a b e = cc
-one_storage sort Bytes y z a b e = let same : decimal_bytes y ≡ decimal_bytes z = cc in one_number sort y z a b same
 
 -- ---- literals that have no words
 

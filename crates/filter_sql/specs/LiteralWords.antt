@@ -4,11 +4,9 @@ use Rattle.std.specs.String.{string_bytes}
 use Rattle.vortex_dtype.specs.TypeTree.{TypeTree}
 use Rattle.vortex_cells.specs.Cells.{Cell}
 use Rattle.vortex_filter.specs.Formula.{Formula, constant, comparison, null_test, membership, range, prefix_test, both, either, negation}
-use Rattle.vortex_filter.specs.Literals.{storage_content}
-use Rattle.logical_scalars.specs.Stored.{IsOfLogicalType}
+use Rattle.vortex_filter.specs.LogicalValues.{IsLogicalValue}
 use Rattle.logical_scalars.specs.TypeShapes.{shape_in}
-use Rattle.logical_types.specs.Extensions.{storage_type_of}
-use Rattle.logical_types.specs.Words.{IsStorageOf, Writes}
+use Rattle.logical_types.specs.Words.{Writes}
 use Rattle.logical_types.specs.declared.logical.LogicalType.{LogicalType}
 use Rattle.logical_types.specs.declared.logical.LogicalType.TheVariants.{Float64, Float32, Decimal, Date, Time, Timestamp}
 use Rattle.filter_sql.specs.Lexing.{is_number}
@@ -36,12 +34,6 @@ token_of_word (quoted_word word) = string_token word
 -- whether the type is a logical type
 abbrev pub is_logical : TypeTree → Bool
 is_logical t = is_some (shape_in t)
-
--- the cell is the value of a logical type with this storage
-pub record IsLogicalValue (logical : LogicalType) (z : ℤ) (x : Cell) : Type 0 where
-  pub typed : IsOfLogicalType x.typed logical
-  pub value : IsStorageOf logical z
-  pub stored : x.content ≡ storage_content (storage_type_of logical) z
 
 -- whether values of the type are numbers
 abbrev pub is_numeric : LogicalType → Bool

@@ -18,7 +18,7 @@ use Rattle.filter_sql.specs.Grammar.{IsFilter}
 use Rattle.vortex_filter.specs.CheckSteps.{holds_strings}
 use Rattle.vortex_filter.specs.Literals.{null_cell, truth_cell, number_cell, text_cell, bytes_cell}
 use Rattle.logical_types.specs.declared.logical.LogicalType.{LogicalType}
-use Rattle.filter_sql.specs.LiteralWords.{IsLogicalValue}
+use Rattle.vortex_filter.specs.LogicalValues.{IsLogicalValue}
 use Rattle.filter_sql.specs.Mistakes.{error_of, filter_mistake}
 use Rattle.filter_sql.specs.Printing.{column_name, groups_and, groups_or}
 use Rattle.filter_sql.specs.Texts.{Item, AreItemsOf, EndsAt}

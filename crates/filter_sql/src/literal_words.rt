@@ -1,26 +1,21 @@
 //! The words by which literals of logical types are printed.
 
-ghost use Rattle.std.specs.Prelude.{◌≡◌, ◌≢◌, ◌∷◌, ◌++◌, [], ℤ, IfNone, IfOk, IfSome, List, Option, OnOk, drop, map};
-ghost use Rattle.std.specs.Prelude.{option_map, string_bytes};
-ghost use Rattle.vortex_filter.specs.Literals.{storage_content};
+ghost use Rattle.std.specs.Prelude.{◌≡◌, IfOk, OnOk, drop, map, option_map, string_bytes};
 ghost use Rattle.std.specs.List.{list_any};
 ghost use Rattle.filter_sql.specs.Choosing.{AddsEach, AddsWord, AddsWords, has_logical, is_logical_cell};
-ghost use Rattle.filter_sql.specs.LiteralWords.{AreWordsOf, IsLogicalValue, IsWordOf, first_word, is_logical, is_numeric, printed_word};
+ghost use Rattle.filter_sql.specs.LiteralWords.{AreWordsOf, IsWordOf, first_word, is_logical, is_numeric, printed_word};
 ghost use Rattle.filter_sql.specs.LiteralWords.{word_tree, word_trees, words_behind};
-ghost use Rattle.filter_sql.specs.Words.{cell_of, formula, scalar_content};
-ghost use Rattle.logical_scalars.specs.Stored.{IsOfLogicalType};
+ghost use Rattle.filter_sql.specs.Words.{cell_of, formula};
 ghost use Rattle.vortex_dtype.specs.TypeOf.{type_of};
 
 use crate::lex::is_number;
 use logical_scalars::laws::shapes_say_types;
 use logical_scalars::logical_type_of;
-use logical_types::{
-    LogicalType, StorageType, decimal_of_bytes, is_value_of, laws, storage_type, word_of_storage,
-};
+use logical_types::{LogicalType, word_of_storage};
 use std::alloc::{AllocError, Global};
 use vortex_dtype::DType;
-use vortex_filter::Filter;
-use vortex_value::{Scalar, ScalarValue};
+use vortex_filter::{Filter, logical_value};
+use vortex_value::Scalar;
 
 /// The word of a value of a logical type.
 #[derive(Debug, Drop)]
@@ -144,48 +139,12 @@ fn push_word(
 fn word_of(alloc: Global, literal: &Scalar) -> Result<Option<Word>, AllocError>
     ensures { IfOk result (λ word. IsWordOf (option_map word_tree word) (cell_of literal.now)) }
 {
-    shapes_say_types();
-    let Some(logical) = logical_type_of(&literal.dtype) else {
-        return Ok(None);
-    };
-    let Some(storage) = value_in(logical, literal) else {
+    let Some((logical, storage)) = logical_value(literal) else {
         return Ok(None);
     };
     match word_of_storage(alloc, logical, storage)? {
         Some(word) => Ok(Some(printed_word(logical, word))),
         None => Ok(None),
-    }
-}
-
-/// The storage of the value that a literal of a logical type is.
-fn value_in(logical: LogicalType, literal: &Scalar) -> Option<i128>
-    requires { IsOfLogicalType (type_of literal.now.dtype) logical }
-    ensures some { IfSome result (λ z. IsLogicalValue logical z (cell_of literal.now)) }
-    ensures none { IfNone result ((z : ℤ) → ¬ (IsLogicalValue logical z (cell_of literal.now))) }
-{
-    laws::storages_fit(logical);
-    laws::decimal_bytes_sort_as_numbers();
-    let storage = storage_in(storage_type(logical), literal)?;
-    if is_value_of(logical, storage) {
-        Some(storage)
-    } else {
-        None
-    }
-}
-
-/// The number that a literal stores.
-fn storage_in(kind: StorageType, literal: &Scalar) -> Option<i128>
-    ensures some { IfSome result (λ z. scalar_content literal.now ≡ storage_content kind z) }
-    ensures none { IfNone result ((z : ℤ) → scalar_content literal.now ≢ storage_content kind z) }
-{
-    match (kind, literal.value()) {
-        (StorageType::I32 | StorageType::I64, Some(ScalarValue::Primitive(number))) => {
-            Some(number.whole())
-        }
-        (StorageType::Bytes, Some(ScalarValue::Binary(bytes))) => {
-            decimal_of_bytes(bytes.as_slice())
-        }
-        _ => None,
     }
 }
 

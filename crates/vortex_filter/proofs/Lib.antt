@@ -8,6 +8,7 @@ pub mod FitProofs
 pub mod LiteralLaws
 pub mod LiteralSteps
 pub mod LiteralTypes
+pub mod LogicalValueLaws
 pub mod Loops
 pub mod MakeSteps
 pub mod PositionLaws

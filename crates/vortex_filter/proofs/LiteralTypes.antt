@@ -54,7 +54,7 @@ by_none f t e = sym (ap (option_and_then f) e)
 
 -- ---- the cell of a scalar
 
-storage_is : (l : LogicalType) → storage_type_of l ≡ stored_as (shape_of l)
+pub storage_is : (l : LogicalType) → storage_type_of l ≡ stored_as (shape_of l)
 storage_is Float64 = refl
 storage_is Float32 = refl
 storage_is (Decimal d) = refl

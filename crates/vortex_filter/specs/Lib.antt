@@ -10,6 +10,7 @@ pub mod FitExamples
 pub mod FitLaws
 pub mod Formula
 pub mod Literals
+pub mod LogicalValues
 pub mod Makes
 pub mod Named
 pub mod Operators
