@@ -1,4 +1,5 @@
 pub mod EncodingLaws
+pub mod ExtensionLaws
 pub mod HeadLaws
 pub mod ListLaws
 pub mod LiteralLaws
