@@ -1,5 +1,6 @@
 -- Encodings: what begins with two of them, and the first byte that none has.
-use Rattle.std.proofs.Common.{◌≡◌, ◌≢◌, ◌⊎◌, inl, inr, true≢false, ℕ, zero, suc, ◌+◌, ◌-◌, ◌<◌, ◌≤◌, List, [], ◌∷◌, ◌++◌, length, length-append, take, drop, refl, sym, subst, ap, ap₂, ◌∙◌, append_assoc, append-nil, arith}
+use Rattle.std.specs.List.{list_any}
+use Rattle.std.proofs.Common.{◌≡◌, ◌≢◌, ◌⊎◌, ◌||◌, Bool, true, false, cond, inl, inr, true≢false, ℕ, zero, suc, ◌+◌, ◌-◌, ◌<◌, ◌≤◌, List, [], ◌∷◌, ◌++◌, length, length-append, take, drop, refl, sym, subst, ap, ap₂, ◌∙◌, append_assoc, append-nil, arith}
 use Rattle.std.specs.Prelude.{Err, IfErr, IfOk, IsErr, MatchResult, Ok, Result}
 use Rattle.std.specs.Result.{IsErrAnd}
 use Rattle.vortex_dtype.specs.TypeTree.{TypeTree}
@@ -7,7 +8,7 @@ use Rattle.vortex_filter.specs.Formula.{Formula, constant, formula}
 use Rattle.vortex_filter.specs.declared.truth.Truth.TheVariants.{True}
 use Rattle.vortex_row.proofs.ReaderSteps.{take-then}
 use Rattle.filter_encoding.specs.Answers.{HasNoValue, IsFirstWrong, IsEncoding, ReadsAs}
-use Rattle.filter_encoding.specs.Encoding.{EncodingsAreApart, HasEncoding, HasValues, IsPlain, IsVersion, Prepared, encoding_in, node_bytes, prepared, type_bytes}
+use Rattle.filter_encoding.specs.Encoding.{EncodingsAreApart, HasEncoding, HasValues, IsFormed, IsPlain, IsVersion, Prepared, encoding_in, has_extended, is_extension, node_bytes, prepared, type_bytes, version_of}
 use Rattle.filter_encoding.specs.Lists.{AreListed, listed}
 use Rattle.filter_encoding.specs.Steps.{IsNode, IsNodeEncoding, ReadsEncoding}
 use Rattle.filter_encoding.specs.declared.error.FilterEncodingError.{FilterEncodingError}
@@ -69,11 +70,19 @@ encoding_goes_on n version one = record {
       );
 }
 
+-- the version that is written
+pub written_version : (p : Prepared) → IsVersion (version_of p)
+written_version p = by_test (list_any is_extension p.types || has_extended p.filter)
+  where
+    by_test : (b : Bool) → IsVersion (cond b 2 1)
+    by_test true = inr refl
+    by_test false = inl refl
+
 no_columns : AreListed IsPlain []
 no_columns = record { fit = omega arith; each = tt }
 
 -- the encoding of a prepared filter in a version
-one_encoding : (n version : ℕ) (p : Prepared) → IsVersion version → HasEncoding n p → IsEncoding n (encoding_in version p)
+one_encoding : (n version : ℕ) (p : Prepared) → IsVersion version → IsFormed n p → IsEncoding n (encoding_in version p)
 one_encoding n version p one h = record { version = version; value = p; is_version = one; is_one = h; is = refl }
 
 some_encoding : (n : ℕ) → (s : List ℕ) × IsEncoding n s
@@ -104,7 +113,7 @@ filter_stuck n ts old mid here now b h stuck = second_stuck (listed type_bytes) 
 
 -- an encoding in some version is read
 abbrev pub HasBeenRead : ℕ → Prepared → List ℕ → List ℕ → Type 0
-HasBeenRead n p old now = (version : ℕ) × IsVersion version × HasRead (encoding_in version) (HasEncoding n) p old now
+HasBeenRead n p old now = (version : ℕ) × IsVersion version × HasRead (encoding_in version) (IsFormed n) p old now
 
 pub encoding_read : (n : ℕ) (ts : List TypeTree) (f : Formula) (old mid here now : List ℕ) → Begun old mid → HasRead (listed type_bytes) (AreListed IsPlain) ts mid here → HasRead node_bytes (IsNode n) f here now
     → HasBeenRead n (prepared_of ts f) old now
@@ -195,7 +204,7 @@ whole_read n p bytes now left place rest is (version, one, h) more =
     none (x ∷ xs) e = absurd (omega arith)
 
 -- one encoding, one prepared filter
-pub same_encoding : (n v w : ℕ) (p q : Prepared) → HasEncoding n p → HasEncoding n q → encoding_in v p ≡ encoding_in w q → p ≡ q
+pub same_encoding : (n v w : ℕ) (p q : Prepared) → IsFormed n p → IsFormed n q → encoding_in v p ≡ encoding_in w q → p ≡ q
 same_encoding n v w p q h g e = (encodings_apart n n v w p q [] [] h g (ap (λ xs. xs ++ []) e)).1
 
 -- ---- what reading answers
@@ -209,23 +218,19 @@ module _ (n : ℕ) (p : PreparedFilter) (bytes now : List ℕ) (left taken stray
   whole : length bytes ≤ taken → (version : ℕ) × IsVersion version × (bytes ≡ encoding_in version (prepared p))
   whole more = whole_read n (prepared p) bytes now left taken rest is h more
 
-  same : length bytes ≤ taken → (version : ℕ) (q : Prepared) → HasEncoding n q → bytes ≡ encoding_in version q → prepared p ≡ q
+  same : length bytes ≤ taken → (version : ℕ) (q : Prepared) → IsFormed n q → bytes ≡ encoding_in version q → prepared p ≡ q
   same more version q g e = let w = whole more in same_encoding n w.0 version (prepared p) q h.2.is_one g (sym w.2 ∙ e)
 
   pub ok_read : (r : Result PreparedFilter FilterEncodingError) → Answers r → IfOk r (λ q. (version : ℕ) × IsVersion version × HasEncoding n (prepared q) × (bytes ≡ encoding_in version (prepared q)))
   ok_read (Ok q) a =
       let w = whole a.1 in
-      subst (λ q. (version : ℕ) × IsVersion version × HasEncoding n (prepared q) × (bytes ≡ encoding_in version (prepared q))) (sym a.0) (w.0, w.1, h.2.is_one, w.2)
+      subst (λ q. (version : ℕ) × IsVersion version × HasEncoding n (prepared q) × (bytes ≡ encoding_in version (prepared q))) (sym a.0) (w.0, w.1, record { formed = h.2.is_one; values = a.2 }, w.2)
   ok_read (Err e) a = tt
 
-  pub ok_values : (r : Result PreparedFilter FilterEncodingError) → Answers r → IfOk r (λ q. HasValues (formula q.filter))
-  ok_values (Ok q) a = subst (λ (x : PreparedFilter). HasValues (formula x.filter)) (sym a.0) a.2
-  ok_values (Err e) a = tt
-
-  pub ok_whole : (r : Result PreparedFilter FilterEncodingError) → Answers r → (version : ℕ) (q : Prepared) → IsVersion version → HasEncoding n q → HasValues q.filter → bytes ≡ encoding_in version q → ReadsAs q r
-  ok_whole (Ok x) a version q one g values e = ap prepared a.0 ∙ same a.1 version q g e
-  ok_whole (Err d) (inl a) version q one g values e = absurd ((wrong_after n (prepared p) bytes now left taken rest is h a.1).none (record { version = version; value = q; is_version = one; is_one = g; is = e }))
-  ok_whole (Err d) (inr a) version q one g values e = absurd (a.2 (subst (λ (x : Prepared). HasValues x.filter) (sym (same a.1 version q g e)) values))
+  pub ok_whole : (r : Result PreparedFilter FilterEncodingError) → Answers r → (version : ℕ) (q : Prepared) → IsVersion version → HasEncoding n q → bytes ≡ encoding_in version q → ReadsAs q r
+  ok_whole (Ok x) a version q one g e = ap prepared a.0 ∙ same a.1 version q g.formed e
+  ok_whole (Err d) (inl a) version q one g e = absurd ((wrong_after n (prepared p) bytes now left taken rest is h a.1).none (record { version = version; value = q; is_version = one; is_one = g.formed; is = e }))
+  ok_whole (Err d) (inr a) version q one g e = absurd (a.2 (subst (λ (x : Prepared). HasValues x.filter) (sym (same a.1 version q g.formed e)) g.values))
 
   pub ok_bad : (r : Result PreparedFilter FilterEncodingError) → Answers r → (place : ℕ) → r ≡ Err (BadBytes place) → IsFirstWrong (IsEncoding n) bytes place
   ok_bad (Ok x) a place e = absurd (cc)
@@ -243,8 +248,8 @@ module _ (n : ℕ) (p : PreparedFilter) (bytes now : List ℕ) (left taken stray
   ok_refused (Err d) (inr a) = inr (inr (stray, a.0))
 
 -- where the bytes are stuck
-pub bad_whole : (n : ℕ) (bytes : List ℕ) (place : ℕ) → IsFirstWrong (IsEncoding n) bytes place → (version : ℕ) (q : Prepared) → IsVersion version → HasEncoding n q → HasValues q.filter → bytes ≡ encoding_in version q → BadBytes place ≡ OutOfMemory
-bad_whole n bytes place w version q one g values e = absurd (w.none (record { version = version; value = q; is_version = one; is_one = g; is = e }))
+pub bad_whole : (n : ℕ) (bytes : List ℕ) (place : ℕ) → IsFirstWrong (IsEncoding n) bytes place → (version : ℕ) (q : Prepared) → IsVersion version → HasEncoding n q → bytes ≡ encoding_in version q → BadBytes place ≡ OutOfMemory
+bad_whole n bytes place w version q one g e = absurd (w.none (record { version = version; value = q; is_version = one; is_one = g.formed; is = e }))
 
 pub bad_bad : (n : ℕ) (bytes : List ℕ) (at : ℕ) → IsFirstWrong (IsEncoding n) bytes at → (r : Result PreparedFilter FilterEncodingError) → r ≡ Err (BadBytes at) → (place : ℕ) → r ≡ Err (BadBytes place) → IsFirstWrong (IsEncoding n) bytes place
 bad_bad n bytes at w r here place e = let same : at ≡ place = cc in subst (IsFirstWrong (IsEncoding n) bytes) same w

@@ -8,7 +8,7 @@ use Rattle.vortex_row.specs.Held.{IsHeld}
 use Rattle.vortex_row.specs.Keys.{key}
 use Rattle.vortex_cells.specs.Cells.{Cell}
 use Rattle.vortex_filter.specs.Formula.{Formula}
-use Rattle.filter_encoding.specs.Encoding.{CanBeWritten, IsHeldCell, IsPlain, IsPlainCell, IsWritten, Nests, Prepared, encoding, literal_bytes, node_bytes, type_bytes, version_of}
+use Rattle.filter_encoding.specs.Encoding.{CanBeWritten, IsHeldCell, IsLogicallyValid, IsPlain, IsPlainCell, IsWritten, Nests, Prepared, encoding, literal_bytes, node_bytes, type_bytes, version_of}
 use Rattle.filter_encoding.specs.Lists.{AreListed, listed}
 use Rattle.filter_encoding.specs.Steps.{Appends, Begins, IsRefused}
 use Rattle.filter_encoding.specs.declared.error.FilterEncodingError.{FilterEncodingError}
@@ -48,11 +48,11 @@ begins_on old mid now h g = begins_later h.more old mid now h.is g
 
 -- a key, after the byte of its type
 pub key_written : (x : Cell) (t : TypeTree) (r : Result Unit FilterEncodingError) (old mid now : List ℕ) → x.typed ≡ t → IsPlain t × (mid ≡ old ++ type_bytes t) → OnOk r (now ≡ mid ++ key x.content) → OnOk r (IsHeld x.content) → OnOk r (HasNoTyped x.content)
-    → IfErr r (IsRefused (HasNoTyped x.content))
+    → IfErr r (IsRefused (HasNoTyped x.content)) → IsLogicallyValid x
     → OnErr r (now ≡ mid) → Appends (IsHeldCell x) (IsPlainCell x) (literal_bytes x) r old now
-key_written x t (Ok u) old mid now e w ok held untyped err same =
-    (record { plain = subst IsPlain (sym e) w.0; untyped = untyped; held = held }, ok ∙ ap (λ xs. xs ++ key x.content) w.1 ∙ append_assoc old (type_bytes t) (key x.content) ∙ ap (λ u. old ++ (type_bytes u ++ key x.content)) (sym e))
-key_written x t (Err d) old mid now e w ok held untyped err same =
+key_written x t (Ok u) old mid now e w ok held untyped err logical same =
+    (record { plain = subst IsPlain (sym e) w.0; untyped = untyped; logical = logical; held = held }, ok ∙ ap (λ xs. xs ++ key x.content) w.1 ∙ append_assoc old (type_bytes t) (key x.content) ∙ ap (λ u. old ++ (type_bytes u ++ key x.content)) (sym e))
+key_written x t (Err d) old mid now e w ok held untyped err logical same =
     (refused_too (HasNoTyped x.content) (IsPlainCell x) d (λ p. p.untyped) err, record { more = type_bytes t; is = same ∙ w.1 })
 
 -- ---- tests

@@ -1,7 +1,7 @@
 -- What reading an encoding answers: the prepared filter that was written, or the first byte that no encoding has there.
 use Rattle.std.specs.Prelude.{◌≡◌, ℕ, suc, ◌<◌, ◌≤◌, List, length, take, Result, MatchResult}
 use Rattle.statistics_bytes.specs.EncodingAnswers.{MayGoOn}
-use Rattle.filter_encoding.specs.Encoding.{HasEncoding, HasValues, IsVersion, Prepared, encoding_in, prepared}
+use Rattle.filter_encoding.specs.Encoding.{HasValues, IsFormed, IsVersion, Prepared, encoding_in, prepared}
 use Rattle.filter_encoding.specs.declared.error.FilterEncodingError.{FilterEncodingError}
 use Rattle.filter_encoding.specs.declared.error.FilterEncodingError.TheVariants.{OutOfMemory}
 use Rattle.filter_encoding.specs.declared.prepared.PreparedFilter.{PreparedFilter}
@@ -11,7 +11,7 @@ pub record IsEncoding (n : ℕ) (bs : List ℕ) : Type 0 where
   pub version : ℕ
   pub value : Prepared
   pub is_version : IsVersion version
-  pub is_one : HasEncoding n value
+  pub is_one : IsFormed n value
   pub is : bs ≡ encoding_in version value
 
 -- the bytes are the encoding of a prepared filter with a literal that is no value of its logical type

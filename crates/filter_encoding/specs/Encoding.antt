@@ -93,15 +93,21 @@ type_bytes t = byte_string t
 abbrev pub literal_bytes : Cell → List ℕ
 literal_bytes x = type_bytes x.typed ++ key x.content
 
--- a literal of such a type, in which no variant's child stands
+-- a literal of a logical type is null, or a value of it
+abbrev pub IsLogicallyValid : Cell → Type 0
+IsLogicallyValid x = (l : LogicalType) → IsOfLogicalType x.typed l → (x.content ≡ null) ⊎ ((m : LogicalType) × (z : ℤ) × IsLogicalValue m z x)
+
+-- a literal of a type that has bytes, in which no variant's child stands; one of a logical type is null or a value of it
 pub record IsPlainCell (x : Cell) : Type 0 where
   pub plain : IsPlain x.typed
   pub untyped : HasNoTyped x.content
+  pub logical : IsLogicallyValid x
 
 -- the same, and memory can hold its content
 pub record IsHeldCell (x : Cell) : Type 0 where
   pub plain : IsPlain x.typed
   pub untyped : HasNoTyped x.content
+  pub logical : IsLogicallyValid x
   pub held : IsHeld x.content
 
 -- a literal of such a type, and a value of it
@@ -217,14 +223,10 @@ pub record IsWritten (n : ℕ) (p : Prepared) : Type 0 where
   pub types : AreListed IsPlain p.types
   pub filter : Nests IsHeldCell n p.filter
 
--- the same, and each literal is a value of its type
-pub record HasEncoding (n : ℕ) (p : Prepared) : Type 0 where
+-- the same, and each literal is a value of its type, though perhaps none of its logical type
+pub record IsFormed (n : ℕ) (p : Prepared) : Type 0 where
   pub types : AreListed IsPlain p.types
   pub filter : Nests IsLiteral n p.filter
-
--- a literal of a logical type is null, or a value of it
-abbrev pub IsLogicallyValid : Cell → Type 0
-IsLogicallyValid x = (l : LogicalType) → IsOfLogicalType x.typed l → (x.content ≡ null) ⊎ ((m : LogicalType) × (z : ℤ) × IsLogicalValue m z x)
 
 -- P holds of each literal
 abbrev pub OfEach : (Cell → Type 0) → Formula → Type 0
@@ -242,6 +244,11 @@ OfEach P (negation f) = OfEach P f
 abbrev pub HasValues : Formula → Type 0
 HasValues = OfEach IsLogicallyValid
 
+-- the same, and each literal of a logical type is a value of it
+pub record HasEncoding (n : ℕ) (p : Prepared) : Type 0 where
+  pub formed : IsFormed n p
+  pub values : HasValues p.filter
+
 -- What begins with the encodings of two prepared filters has one version, the same types, the same formula, and one rest.
 abbrev pub EncodingsAreApart : Type 0
-EncodingsAreApart = (m n v w : ℕ) (p q : Prepared) (xs ys : List ℕ) → HasEncoding m p → HasEncoding n q → encoding_in v p ++ xs ≡ encoding_in w q ++ ys → (v ≡ w) × (p ≡ q) × (xs ≡ ys)
+EncodingsAreApart = (m n v w : ℕ) (p q : Prepared) (xs ys : List ℕ) → IsFormed m p → IsFormed n q → encoding_in v p ++ xs ≡ encoding_in w q ++ ys → (v ≡ w) × (p ≡ q) × (xs ≡ ys)

@@ -16,7 +16,7 @@ use Rattle.vortex_row.specs.Held.{IsHeld}
 use Rattle.vortex_row.specs.Keys.{key}
 use Rattle.vortex_filter.specs.Formula.{Formula, formula}
 use Rattle.vortex_filter.specs.declared.filter.Filter.{Filter}
-use Rattle.filter_encoding.specs.Encoding.{HasByte, HasEncoding, IsLiteral, IsPlain, IsVersion, Nests, byte_string, encoding_in, node_bytes, operator_byte, prepared, truth_byte, type_bytes}
+use Rattle.filter_encoding.specs.Encoding.{HasByte, IsFormed, IsLiteral, IsPlain, IsVersion, Nests, byte_string, encoding_in, node_bytes, operator_byte, prepared, truth_byte, type_bytes}
 use Rattle.filter_encoding.specs.Answers.{IsEncoding}
 use Rattle.filter_encoding.specs.Strings.{HasRead, IsEncodingOf, IsStuck, Reads, Then}
 use Rattle.filter_encoding.specs.declared.error.FilterEncodingError.{FilterEncodingError}
@@ -125,7 +125,7 @@ ReadsType r old now = Reads type_bytes IsPlain type_of r old now
 
 -- an encoding is read in some version, or memory is refused, or the bytes go on as none
 abbrev pub ReadsEncoding : ℕ → Result PreparedFilter FilterDecodeError → List ℕ → List ℕ → Type 0
-ReadsEncoding n r old now = MatchResult r (λ p. (version : ℕ) × IsVersion version × HasRead (encoding_in version) (HasEncoding n) (prepared p) old now) (λ e. e ≡ Bad → IsStuck (IsEncoding n) old now)
+ReadsEncoding n r old now = MatchResult r (λ p. (version : ℕ) × IsVersion version × HasRead (encoding_in version) (IsFormed n) (prepared p) old now) (λ e. e ≡ Bad → IsStuck (IsEncoding n) old now)
 
 -- a filter with this first byte, which was taken, is read, or memory is refused, or the bytes go on as none
 abbrev pub ReadsBehind : ℕ → ℕ → Result Filter FilterDecodeError → List ℕ → List ℕ → Type 0

@@ -133,11 +133,14 @@ pub(crate) fn append_value(literal: &Scalar, out: &mut Vec<u8>) -> Result<(), Fi
     }
 }
 
-/// Appends a literal.
+/// Appends a literal. `NoEncoding` of one that is no value of its logical type.
 pub(crate) fn append_literal(literal: &Scalar, out: &mut Vec<u8>) -> Result<(), FilterEncodingError>
     ensures { Appends (IsHeldCell (cell_of literal.now)) (IsPlainCell (cell_of literal.now))
         (literal_bytes (cell_of literal.now)) result out.old.items out.new.items }
 {
+    if !is_logically_valid(literal) {
+        return Err(FilterEncodingError::NoEncoding);
+    }
     append_type(literal.dtype(), out)?;
     append_value(literal, out)
 }

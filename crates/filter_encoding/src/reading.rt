@@ -34,9 +34,8 @@ pub fn read_filter(
     ensures read { IfOk result (λ p. (version : ℕ) × IsVersion version
         × HasEncoding depth (prepared p) × (bytes.now ≡ encoding_in version (prepared p))) }
     ensures valid { IfOk result (λ p. AreValid (literals_of p.filter)) }
-    ensures values { IfOk result (λ p. HasValues (formula p.filter)) }
     ensures whole { (version : ℕ) (p : Prepared) → IsVersion version → HasEncoding depth p
-        → HasValues p.filter → bytes.now ≡ encoding_in version p → ReadsAs p result }
+        → bytes.now ≡ encoding_in version p → ReadsAs p result }
     ensures bad { (place : ℕ) → result ≡ Err (BadBytes place)
         → IsFirstWrong (IsEncoding depth) bytes.now place }
     ensures no_value { (place : ℕ) → result ≡ Err (NotAValue place) → HasNoValue depth bytes.now }

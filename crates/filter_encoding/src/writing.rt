@@ -21,11 +21,11 @@ use vortex_value::Scalar;
 /// Appends the encoding of the filter over columns of these types, and nothing else.
 ///
 /// `NoEncoding` only if a column or a literal is of a type other than integers, bool, strings,
-/// bytes, nulls and extensions over these, if a variant stands in a literal, or if more than `depth`
-/// connectives nest. Such a filter is never written. `OutOfMemory` is the only other refusal. After
-/// a refusal `out` has the bytes that it had. The literals need not be valid for their types. If
-/// they are, and are values of their logical types, `read_filter` reads what is written, at the same
-/// depth.
+/// bytes, nulls and extensions over these, if a literal is no value of its logical type, if a
+/// variant stands in one, or if more than `depth` connectives nest. Such a filter is never written.
+/// `OutOfMemory` is the only other refusal. After a refusal `out` has the bytes that it had. The
+/// literals need not be valid for their types. If they are, `read_filter` reads what is written, at
+/// the same depth.
 pub fn append_filter(
     filter: &Filter,
     columns: &[DType],

@@ -2,9 +2,9 @@
 use Rattle.std.specs.Prelude.{◌≡◌, ⊤, ℕ, true, false, pos, negsuc, List, [], ◌∷◌, refl, codes, Option, Some, None, Ok, Err}
 use Rattle.std.specs.Fmt.{digits}
 use Rattle.hex.specs.Hex.{decode_pairs, encode_with}
-use Rattle.vortex_dtype.specs.TypeTree.{integer_type, null_type}
+use Rattle.vortex_dtype.specs.TypeTree.{extension_type, integer_type, null_type}
 use Rattle.vortex_dtype.specs.declared.nullability.Nullability.TheVariants.{NonNullable, Nullable}
-use Rattle.vortex_dtype.specs.declared.ptype.PType.TheVariants.{I32, U8}
+use Rattle.vortex_dtype.specs.declared.ptype.PType.TheVariants.{I32, I64, U8}
 use Rattle.vortex_cells.specs.Cells.{Cell}
 use Rattle.vortex_value.specs.Values.Content.{Content, null, whole, text, string}
 use Rattle.vortex_filter.specs.declared.operator.CompareOperator.TheVariants.{NotEq, Gte, Lt, Eq}
@@ -19,6 +19,7 @@ use Rattle.vortex_filter.specs.declared.truth.Truth.TheVariants.{True, Unknown}
 use Rattle.vortex_filter.specs.Formula.{Formula, constant, comparison, null_test, membership, range, prefix_test, both, either, negation}
 use Rattle.filter_sql.specs.Lexing.{after_digits, after_fraction, after_power, bytes_at, mark_of, number_at, parameter_at, token_at, unquoted_at, word_at}
 use Rattle.filter_sql.specs.Tokens.{bytes_token, closing, number_token, keyword_named, keyword_token, name_token, opening, operator_token, string_token}
+use Rattle.filter_sql.specs.LiteralWords.{bare_word, quoted_word}
 use Rattle.filter_sql.specs.Printing.{sql_text}
 use Rattle.filter_sql.specs.ColumnNames.{ColumnTree, column_named, numbered_place}
 use Rattle.vortex_filter.specs.Literals.{number_cell, number_literal, text_literal}
@@ -78,25 +79,41 @@ abbrev pub is_one : Formula
 is_one = comparison 0 Eq (cell (whole (pos 1)))
 
 pub connectives :
-    (sql_text [] (either (both is_one (null_test 1)) (constant True)) ≡ codes "\"$1\" = 1 and \"$2\" is null or true")
-    × (sql_text [] (both (either is_one (null_test 1)) (negation (constant Unknown))) ≡ codes "(\"$1\" = 1 or \"$2\" is null) and not null")
-    × (sql_text [] (both (both is_one is_one) is_one) ≡ codes "(\"$1\" = 1 and \"$1\" = 1) and \"$1\" = 1")
+    (sql_text [] [] (either (both is_one (null_test 1)) (constant True)) ≡ codes "\"$1\" = 1 and \"$2\" is null or true")
+    × (sql_text [] [] (both (either is_one (null_test 1)) (negation (constant Unknown))) ≡ codes "(\"$1\" = 1 or \"$2\" is null) and not null")
+    × (sql_text [] [] (both (both is_one is_one) is_one) ≡ codes "(\"$1\" = 1 and \"$1\" = 1) and \"$1\" = 1")
 unfolding on_texts
 connectives = (refl, refl, refl)
 
 pub tests :
-    (sql_text (codes "a\"b" ∷ []) (negation (null_test 0)) ≡ codes "\"a\"\"b\" is not null")
-    × (sql_text [] (negation (membership 0 (cell (text (codes "it's")) ∷ cell null ∷ []))) ≡ codes "\"$1\" not in ('it''s', null)")
-    × (sql_text [] (range 0 (cell (whole (negsuc 4))) (cell (whole (pos 5)))) ≡ codes "\"$1\" between -5 and 5")
+    (sql_text (codes "a\"b" ∷ []) [] (negation (null_test 0)) ≡ codes "\"a\"\"b\" is not null")
+    × (sql_text [] [] (negation (membership 0 (cell (text (codes "it's")) ∷ cell null ∷ []))) ≡ codes "\"$1\" not in ('it''s', null)")
+    × (sql_text [] [] (range 0 (cell (whole (negsuc 4))) (cell (whole (pos 5)))) ≡ codes "\"$1\" between -5 and 5")
 unfolding on_texts
 tests = (refl, refl, refl)
 
 pub prefixes :
-    (sql_text [] (prefix_test 0 (cell (text (codes "abc")))) ≡ codes "\"$1\" like 'abc%'")
-    × (sql_text [] (prefix_test 0 (cell (text (codes "50%'")))) ≡ codes "\"$1\" like '50\\%''%' escape '\\'")
-    × (sql_text [] (prefix_test 0 (cell (string (97 ∷ 255 ∷ [])))) ≡ codes "starts_with(\"$1\", x'61ff')")
+    (sql_text [] [] (prefix_test 0 (cell (text (codes "abc")))) ≡ codes "\"$1\" like 'abc%'")
+    × (sql_text [] [] (prefix_test 0 (cell (text (codes "50%'")))) ≡ codes "\"$1\" like '50\\%''%' escape '\\'")
+    × (sql_text [] [] (prefix_test 0 (cell (string (97 ∷ 255 ∷ [])))) ≡ codes "starts_with(\"$1\", x'61ff')")
 unfolding on_texts
 prefixes = (refl, refl, refl)
+
+-- by words of values of logical types, in reading order: a number bare, and anything else in quotes
+abbrev some : Cell
+some = cell (whole (pos 1))
+
+pub by_words :
+    (sql_text [] (Some (bare_word (codes "10.5")) ∷ None ∷ Some (quoted_word (codes "2026-03-01")) ∷ []) (both (comparison 0 Lt some) (both (comparison 1 Eq some) (comparison 2 Gte some))) ≡ codes "\"$1\" < 10.5 and \"$2\" = 1 and \"$3\" >= '2026-03-01'")
+    × (sql_text [] (Some (quoted_word (codes "NaN")) ∷ Some (bare_word (codes "-1.5e-7")) ∷ []) (membership 0 (some ∷ some ∷ [])) ≡ codes "\"$1\" in ('NaN', -1.5e-7)")
+    × (sql_text [] (Some (bare_word (codes "12.30")) ∷ []) (either (range 0 some some) (null_test 1)) ≡ codes "\"$1\" between 12.30 and 1 or \"$2\" is null")
+unfolding on_texts
+by_words = (refl, refl, refl)
+
+-- a number that is no value of a logical type
+pub no_word : sql_text [] [] (comparison 0 Eq (record { typed = extension_type (codes "doqallin.f64") [] (integer_type I64 NonNullable); content = whole (pos 9223372036854775807) })) ≡ codes "\"$1\" = ?"
+unfolding on_texts
+no_word = refl
 
 -- What is written of a column, by its type.
 
