@@ -85,11 +85,11 @@ plain-back (utf8_type n) h = tt
 plain-back (binary_type n) h = tt
 plain-back _ h = absurd h
 
--- where a literal stands is a cell of a type that has a byte, or none
 -- a literal of a type that has a byte is of no logical type
 plain-cell : (x : Cell) → HasByte x.typed → HasNoTyped x.content → IsPlainCell x
 plain-cell x h untyped = record { plain = plain_of x.typed h; untyped = untyped; logical = λ l is. absurd (subst HasByte is.typed h) }
 
+-- where a literal stands is a cell of a type that has a byte, or none
 abbrev IsPlainSaid : PositionTree → Type 0
 IsPlainSaid (exactly x) = IsPlainCell x
 IsPlainSaid (just_above x) = IsPlainCell x

@@ -8,8 +8,8 @@ use Rattle.column_filters.specs.declared.errors.MaskError.{MaskError}
 use Rattle.column_filters.specs.declared.errors.MaskError.TheVariants as mask
 use Rattle.column_filters.specs.declared.errors.ZoneError.{ZoneError}
 use Rattle.column_filters.specs.declared.errors.ZoneError.TheVariants as zone
-use Rattle.filter_encoding.specs.Answers.{IsFirstWrong, IsEncoding}
-use Rattle.filter_encoding.specs.Encoding.{HasEncoding, Prepared, encoding}
+use Rattle.filter_encoding.specs.Answers.{HasNoValue, IsFirstWrong, IsEncoding}
+use Rattle.filter_encoding.specs.Encoding.{HasEncoding, IsVersion, Prepared, encoding_in}
 use Rattle.filter_encoding.specs.declared.error.FilterEncodingError.{FilterEncodingError}
 use Rattle.filter_encoding.specs.declared.error.FilterEncodingError.TheVariants.{BadBytes, NoEncoding, NotAValue, OutOfMemory}
 use Rattle.vortex_c.specs.ColumnErrors.{place_in_column, status_of_column}
