@@ -1,5 +1,5 @@
 -- What is spelled as a token says is read as that token.
-use Rattle.std.proofs.Common.{◌≡◌, ◌⊎◌, inl, inr, ℕ, ◌+◌, ◌-◌, ◌<◌, ◌||◌, ◌&&◌, List, [], ◌∷◌, ◌++◌, Some, None, Option, IfSome, option_and_then, Bool, true, false, not, Ok, append_assoc, add-one, nat_lt, length-append, length, get_or, take, drop, map, refl, sym, ap, ◌∙◌, arith, ◌==◌}
+use Rattle.std.proofs.Common.{◌≡◌, ◌⊎◌, inl, inr, ℕ, ◌+◌, ◌-◌, ◌||◌, ◌&&◌, List, [], ◌∷◌, ◌++◌, Some, None, Option, IfSome, option_and_then, Bool, true, false, not, Ok, append_assoc, add-one, nat_lt, length-append, length, get_or, take, drop, map, refl, sym, ap, ◌∙◌, arith, ◌==◌}
 use Rattle.std.specs.Char.{is_ascii_digit, to_ascii_lowercase}
 use Rattle.std.specs.List.{AllByRecursion, prefix_len, position_or_len, list_all, find}
 use Rattle.std.specs.Str.{bytes_eq}

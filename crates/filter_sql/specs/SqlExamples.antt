@@ -1,5 +1,5 @@
 -- Worked cases of SQL text, each a theorem.
-use Rattle.std.specs.Prelude.{◌≡◌, ⊤, ℕ, true, false, pos, negsuc, List, [], ◌∷◌, refl, codes, Option, Some, None, Ok, Err}
+use Rattle.std.specs.Prelude.{◌≡◌, ⊤, ℕ, true, pos, negsuc, List, [], ◌∷◌, refl, codes, Option, Some, None, Ok, Err}
 use Rattle.std.specs.Fmt.{digits}
 use Rattle.hex.specs.Hex.{decode_pairs, encode_with}
 use Rattle.vortex_dtype.specs.TypeTree.{extension_type, integer_type, null_type}

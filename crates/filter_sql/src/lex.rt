@@ -1,11 +1,10 @@
 //! Cuts SQL text into tokens.
 #![tactic(auto, using(crate::proofs::Cuts::cuts))]
 
-ghost use Rattle.std.specs.Prelude.{◌≡◌, ◌≢◌, ◌+◌, ◌-◌, true, Ok, ◌<◌, ◌≤◌, drop, get_or, length, take, List, IfErr};
-ghost use Rattle.std.specs.Prelude.{IfOk, IfSome, IfNone, None, option_map, slice_index};
+ghost use Rattle.std.specs.Prelude.{◌≡◌, ◌+◌, ◌-◌, true, Ok, ◌<◌, ◌≤◌, drop, get_or, length, take, List, IfErr};
+ghost use Rattle.std.specs.Prelude.{IfOk, IfSome, None, option_map, slice_index};
 ghost use Rattle.std.specs.List.{AllByRecursion, prefix_len};
 ghost use Rattle.std.specs.Char.{is_ascii_digit};
-ghost use Rattle.std.specs.Str.{IsUtf8};
 ghost use Rattle.filter_sql.specs.Words.{AreTokens, EndsAt, TokenTree, canonical, fault_at, items, stopped, trees};
 ghost use Rattle.filter_sql.specs.Words.{Gives, name_token, quoted_token, string_bytes, bytes_at, number_at};
 ghost use Rattle.filter_sql.specs.Words.{is_word_byte, is_word_start, keyword_named, keyword_text, mark_of};

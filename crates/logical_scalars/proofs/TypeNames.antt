@@ -1,5 +1,5 @@
 -- The logical type of a column's type by a function is what it is by the relation.
-use Rattle.std.proofs.Common.{◌≡◌, ◌∙◌, ◌↔◌, ℕ, List, Option, Some, None, option_and_then, refl, sym, subst, ap, ap₂}
+use Rattle.std.proofs.Common.{◌≡◌, ◌∙◌, ◌↔◌, ℕ, List, Option, Some, None, option_and_then, refl, subst, ap}
 use Rattle.vortex_dtype.specs.TypeTree.{TypeTree, binary_type, extension_type, integer_type}
 use Rattle.vortex_dtype.specs.declared.nullability.Nullability.{Nullability}
 use Rattle.vortex_dtype.specs.declared.ptype.PType.{PType}

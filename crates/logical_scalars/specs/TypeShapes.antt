@@ -1,5 +1,5 @@
 -- The logical types of columns' types, as a function.
-use Rattle.std.specs.Prelude.{ℕ, List, Option, Some, None, option_and_then}
+use Rattle.std.specs.Prelude.{Option, Some, None, option_and_then}
 use Rattle.vortex_dtype.specs.TypeTree.{TypeTree, binary_type, extension_type, integer_type}
 use Rattle.vortex_dtype.specs.declared.ptype.PType.{PType}
 use Rattle.vortex_dtype.specs.declared.ptype.PType.TheVariants as PTypes

@@ -4,7 +4,7 @@ use lib.Pointwise.{bytes_decides}
 use Rattle.std.proofs.lemmas.Bool.{false≢true}
 use Rattle.std.proofs.lemmas.Bool.Decides.{nat_tests}
 use Rattle.logical_types.specs.Extensions.{HasMetadata, HasZone, IsExtension, id_of, storage_type_of, unit_byte}
-use Rattle.logical_types.specs.Shapes.{Shape, float64, float32, decimals, days, times, timestamps, clock_storage, days_of, decimal_storage, decimals_of, float_of, same_storage, shape_named, shape_of, shape_of_extension, stored_as, stored_so, times_of, timestamps_of, unit_of}
+use Rattle.logical_types.specs.Shapes.{Shape, float64, float32, decimals, days, times, timestamps, days_of, decimals_of, float_of, same_storage, shape_named, shape_of, shape_of_extension, stored_as, stored_so, times_of, timestamps_of, unit_of}
 use Rattle.logical_types.specs.declared.extensions.StorageType.{StorageType}
 use Rattle.logical_types.specs.declared.extensions.StorageType.TheVariants.{I32, I64, Bytes}
 use Rattle.logical_types.specs.declared.logical.LogicalType.{LogicalType}

@@ -1,5 +1,5 @@
 -- What words write by a function is what they write by their relations.
-use Rattle.std.proofs.Common.{◌≡◌, ◌∙◌, ◌↔◌, ◌+◌, ◌*◌, ◌/◌, ◌%◌, ◌<◌, ◌≤◌, ◌==◌, ◌&&◌, ◌*ℤ◌, ◌≤ℤ◌, ℕ, zero, suc, ℤ, pos, negsuc, neg_ℤ, int_le, Bool, true, false, cond, List, Option, Some, None, Result, Ok, Err, T, nat_le, bytes_eq, option_and_then, refl, sym, subst, ap, arith}
+use Rattle.std.proofs.Common.{◌≡◌, ◌∙◌, ◌↔◌, ◌+◌, ◌*◌, ◌/◌, ◌%◌, ◌<◌, ◌≤◌, ◌==◌, ◌&&◌, ◌*ℤ◌, ◌≤ℤ◌, ℕ, suc, ℤ, pos, negsuc, neg_ℤ, int_le, Bool, true, false, cond, List, Option, Some, None, Result, Ok, Err, T, nat_le, bytes_eq, option_and_then, refl, sym, subst, ap, arith}
 use lib.Signed.{le_z_yes}
 use lib.Pointwise.{bytes_decides}
 use Rattle.std.proofs.Math.Nat.{div-add-mod}
@@ -15,7 +15,7 @@ use Rattle.jiff_fmt.specs.Temporal.{DateParts, date_parts, parse_date}
 use Rattle.logical_types.specs.Clock.{IsTimeWord, time_written}
 use Rattle.logical_types.specs.Days.{IsDayWord, day_of_parts, day_written, is_between, is_date, parts_text}
 use Rattle.logical_types.specs.Shapes.{if_between, shape_of, storage_in, time_of_nanoseconds, timestamp_of_nanoseconds, whole_units}
-use Rattle.logical_types.specs.Times.{IsTimestamp, IsTimestampWord, nanoseconds_of, timestamp_written}
+use Rattle.logical_types.specs.Times.{IsTimestampWord, nanoseconds_of, timestamp_written}
 use Rattle.logical_types.specs.Words.{Writes}
 use Rattle.logical_types.specs.declared.logical.LogicalType.{LogicalType}
 use Rattle.logical_types.specs.declared.logical.LogicalType.TheVariants.{Float64, Float32, Decimal, Date as Dates, Time, Timestamp}

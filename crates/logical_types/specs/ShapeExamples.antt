@@ -6,10 +6,10 @@ use Rattle.jiff_fmt.specs.Offset.{parse as parse_offset}
 use Rattle.jiff_fmt.specs.Reader.{field, four_digits, temporal_fraction, two_digits}
 use Rattle.jiff_fmt.specs.Rfc9557.{annotations, parse, time_zone_annotation}
 use Rattle.jiff_fmt.specs.Temporal.{date_spec, temporal_datetime, time_spec, year}
-use Rattle.logical_types.specs.Shapes.{days, decimals, float64, place_in, shape_of_extension, storage_in, timestamps, times}
+use Rattle.logical_types.specs.Shapes.{days, decimals, float64, place_in, shape_of_extension, storage_in, timestamps}
 use Rattle.logical_types.specs.declared.decimals.places.DecimalPlace.TheVariants.{At, Behind, BelowAll, AboveAll}
-use Rattle.logical_types.specs.declared.extensions.StorageType.TheVariants.{I32, I64, Bytes}
-use Rattle.logical_types.specs.declared.times.TimeUnit.TheVariants.{Seconds, Milliseconds, Microseconds}
+use Rattle.logical_types.specs.declared.extensions.StorageType.TheVariants.{I64}
+use Rattle.logical_types.specs.declared.times.TimeUnit.TheVariants.{Milliseconds, Microseconds}
 
 -- what the proofs of dates and times compute by
 unfoldable pub on_words : ⊤

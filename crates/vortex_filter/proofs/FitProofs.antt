@@ -3,7 +3,7 @@ use Rattle.std.proofs.Common.{◌≡◌, ◌≢◌, ◌⊎◌, ◌↔◌, inl, i
 use Rattle.std.specs.List.{AllByRecursion, slice_get}
 use Rattle.std.proofs.lemmas.Bool.{false≢true}
 use Rattle.std.proofs.lemmas.Option.{same_Some}
-use Rattle.vortex_dtype.specs.TypeTree.{TypeTree, Same, as_nullable, binary_type, bool_type, integer_type, utf8_type}
+use Rattle.vortex_dtype.specs.TypeTree.{TypeTree, Same, as_nullable, binary_type, bool_type, extension_type, integer_type, utf8_type}
 use Rattle.vortex_dtype.specs.declared.nullability.Nullability.{Nullability}
 use Rattle.vortex_dtype.specs.declared.ptype.PType.{PType}
 use Rattle.vortex_value.specs.Equality.{same_type}
@@ -125,6 +125,7 @@ IsKind (bool_type n) (truth_content b) = Unit {0}
 IsKind (integer_type k n) (whole z) = Unit {0}
 IsKind (utf8_type n) (text bs) = Unit {0}
 IsKind (binary_type n) (string bs) = Unit {0}
+IsKind (extension_type id metadata u) c = IsKind u c
 IsKind _ _ = ⊥
 
 bool_kind : (m n : Nullability) (c : Content) → HasContent (bool_type n) c → is_null_content c ≡ false → IsKind (bool_type m) c
@@ -163,11 +164,17 @@ string_in : (m : Nullability) (s : TypeTree) (c : Content) → Same (binary_type
 string_in m (binary_type n) c e h f = string_kind m n c h f
 string_in m _ c e h f = cc
 
+-- an extension has the contents of its storage
+extension_in : (id metadata : List ℕ) (u s : TypeTree) → Same (extension_type id metadata u) s → (v : TypeTree) × Same u v × ((c : Content) → HasContent s c → HasContent v c)
+extension_in id metadata u (extension_type other more v) e = let same : Same u v = cc in (v, same, λ c h. h)
+extension_in id metadata u _ e = cc
+
 kind_in : (t s : TypeTree) (c : Content) → IsPlainType t → Same t s → HasContent s c → is_null_content c ≡ false → IsKind t c
 kind_in (bool_type m) s c p e h f = bool_in m s c e h f
 kind_in (integer_type j m) s c p e h f = integer_in j m s c e h f
 kind_in (utf8_type m) s c p e h f = text_in m s c e h f
 kind_in (binary_type m) s c p e h f = string_in m s c e h f
+kind_in (extension_type id metadata u) s c p e h f = let x = extension_in id metadata u s e in kind_in u x.0 c p x.1 (x.2 c h) f
 kind_in _ s c p e h f = absurd p
 
 bools_ordered : (m : Nullability) (c d : Content) → IsKind (bool_type m) c → IsKind (bool_type m) d → order c d ≢ None
@@ -195,6 +202,7 @@ kinds_ordered (bool_type m) c d p h k = bools_ordered m c d h k
 kinds_ordered (integer_type j m) c d p h k = integers_ordered j m c d h k
 kinds_ordered (utf8_type m) c d p h k = texts_ordered m c d h k
 kinds_ordered (binary_type m) c d p h k = strings_ordered m c d h k
+kinds_ordered (extension_type id metadata u) c d p h k = kinds_ordered u c d p h k
 kinds_ordered _ c d p h k = absurd p
 
 -- nothing else is Unknown, if values have an order

@@ -1,5 +1,5 @@
 -- Literals in columns of logical types.
-use Rattle.std.proofs.Common.{◌≡◌, ◌↔◌, ◌&&◌, ◌+ℤ◌, Bool, true, false, cond, pos, ℤ, List, ℕ, Option, Some, None, Result, Ok, Err, IfOk, option_and_then, option_map, refl, sym, subst, ap, ap₂, ◌∙◌}
+use Rattle.std.proofs.Common.{◌≡◌, ◌↔◌, ◌&&◌, ◌+ℤ◌, Bool, true, false, cond, pos, ℤ, List, ℕ, Option, Some, None, Result, IfOk, option_and_then, option_map, refl, sym, subst, ap, ap₂, ◌∙◌}
 use Rattle.vortex_dtype.specs.TypeTree.{TypeTree}
 use Rattle.vortex_dtype.specs.declared.ptype.PType.{PType}
 use Rattle.std.specs.Ordering.{int_cmp}
@@ -8,7 +8,7 @@ use Rattle.vortex_pvalue.specs.Numbers.{InRange, in_range}
 use Rattle.vortex_pvalue.specs.RangeLaws.{in_range_false, in_range_true}
 use Rattle.vortex_pvalue.specs.declared.pvalues.PValue.{PValue}
 use Rattle.vortex_value.specs.Values.Content.{Content, content}
-use Rattle.vortex_value.specs.Values.Scalars.{IsMadeOf, scalar_content}
+use Rattle.vortex_value.specs.Values.Scalars.{IsMadeOf}
 use Rattle.vortex_value.specs.declared.scalars.Scalar.{Scalar}
 use Rattle.vortex_cells.specs.Cells.{Cell, cell_of}
 use Rattle.logical_scalars.specs.Stored.{IsOfLogicalType, raw_storage}

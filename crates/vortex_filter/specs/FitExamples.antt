@@ -8,14 +8,14 @@ use Rattle.vortex_value.specs.Values.Content.{null, whole}
 use Rattle.vortex_cells.specs.Cells.{Cell}
 use Rattle.logical_types.specs.ShapeExamples.{on_words}
 use Rattle.logical_types.specs.Shapes.{place_in}
-use Rattle.vortex_filter.specs.declared.operator.CompareOperator.TheVariants.{Eq, NotEq, Gt, Gte, Lt, Lte}
+use Rattle.vortex_filter.specs.declared.operator.CompareOperator.TheVariants.{Eq, Gt, Gte, Lt}
 use Rattle.vortex_filter.specs.declared.truth.Truth.TheVariants.{Unknown, True}
 use Rattle.vortex_filter.specs.Checking.{comparing, nothing, tests}
 use Rattle.vortex_filter.specs.Coercing.{coerced}
 use Rattle.vortex_filter.specs.Extensions.{reinterprets}
 use Rattle.vortex_filter.specs.Formula.{Formula, both, comparison, constant, either, membership, negation, null_test, range}
 use Rattle.vortex_filter.specs.Literals.{null_literal, number_literal, text_literal, number_cell, position_of}
-use Rattle.vortex_filter.specs.Positions.{exactly, just_above, lacking, comparison_of, member_among, range_of}
+use Rattle.vortex_filter.specs.Positions.{exactly, just_above, lacking}
 use Rattle.vortex_filter.specs.Rows.{content_truth}
 
 -- an i64 literal, and an i16 literal as a cast makes it

@@ -1,6 +1,6 @@
 -- What a filter that fits the columns says of rows of the columns' types.
 use Rattle.std.specs.Prelude.{◌≡◌, ◌⊎◌, ◌↔◌, ℕ, true, List, None, Some, slice_get}
-use Rattle.vortex_dtype.specs.TypeTree.{TypeTree, binary_type, bool_type, integer_type, utf8_type}
+use Rattle.vortex_dtype.specs.TypeTree.{TypeTree, binary_type, bool_type, extension_type, integer_type, utf8_type}
 use Rattle.vortex_value.specs.Laws.HasContent.{HasContent}
 use Rattle.vortex_value.specs.Order.{order}
 use Rattle.vortex_cells.specs.Cells.{Cell, is_null_cell}
@@ -10,12 +10,13 @@ use Rattle.vortex_filter.specs.Checking.{FitsColumns}
 use Rattle.vortex_filter.specs.Formula.{Formula, cell_at, comparison, truth}
 use Rattle.vortex_filter.specs.Rows.{IsRowOf, content_truth}
 
--- truth values, integers, strings or bytes
+-- truth values, integers, strings or bytes, also as the storage of an extension
 abbrev pub IsPlainType : TypeTree → Type 0
 IsPlainType (bool_type n) = Unit {0}
 IsPlainType (integer_type k n) = Unit {0}
 IsPlainType (utf8_type n) = Unit {0}
 IsPlainType (binary_type n) = Unit {0}
+IsPlainType (extension_type id metadata u) = IsPlainType u
 IsPlainType _ = ⊥
 
 -- A comparison that fits is Unknown of a row exactly if the cell or the literal is null, or the two have no order.

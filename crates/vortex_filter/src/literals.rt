@@ -7,7 +7,7 @@ ghost use Rattle.logical_types.specs.Words.{IsStorageOf};
 ghost use Rattle.vortex_filter.specs.FilterLiterals.{AreValid};
 ghost use Rattle.logical_types.specs.declared.logical.LogicalType.TheVariants as LogicalTypes;
 ghost use Rattle.vortex_filter.specs.Literals.{bytes_in, decimal_at, gap_position, integer_at, integer_in};
-ghost use Rattle.vortex_filter.specs.Literals.{integer_position, literal_tree, logical_cell, null_cell, number_cell};
+ghost use Rattle.vortex_filter.specs.Literals.{integer_position, literal_tree, logical_cell, null_cell};
 ghost use Rattle.vortex_filter.specs.Literals.{number_in, number_of_shape, number_of_type, position_of, scalars_in};
 ghost use Rattle.vortex_filter.specs.Literals.{text_cell, text_in, text_of_shape, text_of_type, truth_in};
 ghost use Rattle.vortex_filter.specs.Literals.{written_value};

@@ -1,5 +1,5 @@
 -- No row of the zone matches, and floats compare as their storages do.
-use Rattle.std.proofs.Common.{◌≡◌, ◌∙◌, ap, false, subst, ⊥}
+use Rattle.std.proofs.Common.{◌≡◌, ◌∙◌, ap, subst, ⊥}
 use Rattle.std.specs.Float.{binary64}
 use Rattle.float_storage.specs.Storage.{storage_of}
 use Rattle.vortex_cells.specs.Cells.{Cell, cell_of}
