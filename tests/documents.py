@@ -10,7 +10,8 @@ MOST_WORDS = {"all documents": 25_000, "docs/ARCHITECTURE.md": 2_400}
 # Names of what is no more, of upstream's, of the kit's and its command's, and of a caller's own.
 ELSEWHERE = set(
     """vortex_ VORTEX_ vortex DOQALLIN_NO_ROOM NO_ROOM filter_form place line_zones lines find show
-    CoercePValue struct_unchecked unwrap_or_else tidy plant only incremental Proof my_crate new1 Ibindings Lbindings WHAT_GOES_WRONG""".split()
+    CoercePValue struct_unchecked unwrap_or_else tidy plant only incremental Proof
+    my_crate new1 Ibindings Lbindings WHAT_GOES_WRONG""".split()
 )
 SMALL = "zero one two three four five six seven eight nine ten eleven twelve thirteen fourteen fifteen sixteen".split()
 NUMBERS = {**{word: at for at, word in enumerate(SMALL)}, "forty": 40, "a thousand": 1000}
