@@ -1,6 +1,6 @@
 # SPDX-License-Identifier: Apache-2.0
-"""The documents beside the sources, for tests/definitions: names, files, links, crates, numbers, quotients and lengths. Each
-function of CHECKS yields (whether it is right, what is wrong else)."""
+"""The documents beside the sources, for tests/definitions: names, files, links, calls, crates, numbers and lengths. Each function
+of CHECKS yields pairs: whether something is right, and what is wrong if not."""
 import glob, importlib.machinery, importlib.util, itertools, math, os, re, sys
 
 TOP = os.path.dirname(os.path.dirname(os.path.abspath(__file__)))
@@ -228,6 +228,7 @@ def of_values():
     optional = len(set(re.findall(r"fn (as_\w+_opt)", read("crates/vortex_views/src/downcast.rt"))))
     bare = sum(not claim.promises() for crate in claims.library_crates() for claim in claims.public_claims(crate))
     unsafes = count_of(sources(*uses()), r"\bunsafe \{")
+    digits = int(re.search(r"precision > (\d+)", read("crates/logical_types/src/logical.rt"))[1])
     return [
         ("README.md", "the crates {} blocks, of proved UTF-8", [unsafes]),
         ("docs/CLAIMS.md", "For the {} `unsafe` blocks", [unsafes]),
@@ -240,7 +241,9 @@ def of_values():
         ("docs/DIFFERENCES.md", "{} named refusals", [variants]),
         ("docs/CALLING.md", "The {} `.._opt` require", [optional]),
         ("docs/DECISIONS.md", "an optional value takes {} bytes, a `ScalarValue` {} and a buffer {}", sizes),
-        ("docs/DECISIONS.md", "Each of the {} types of decimals", [sum(precision + 1 for precision in range(1, 39))]),
+        ("docs/DECISIONS.md", "A decimal has at most {} digits", [digits]),
+        ("docs/DECISIONS.md", "Each of the {} types of decimals", [sum(precision + 1 for precision in range(1, digits + 1))]),
+        ("CHANGELOG.md", "decimals to {} digits", [digits]),
         ("docs/DEFINITIONS.md", "more than {} characters the first {}, `..`, and the last {}", [2 * shown, shown, shown]),
         ("docs/STATISTICS.md", "byte 1 has one of {} values", [flags_of_statistics()]),
     ]
@@ -254,6 +257,8 @@ def of_limits():
     stacks = re.findall(r", ([\d.]+)\)", line_after("tests/bindings", "CALL_STACKS = "))
     statuses = numbers_in(read("crates/vortex_c/src/status.rt"), r"pub const ([A-Z]\w+): u32 = (\d+);")
     rows = sources("rows").count("\n")
+    bits = [int(bit) for bit in re.findall(r"value_if\(outcomes\.\w+, (\d)\)", read("crates/column_filters/src/zones.rt"))]
+    ends = re.findall(r"^(?:too_large|no_answer|no_toolchain)=(\d+)", read("tools/run_program"), re.MULTILINE)
     return [
         ("CHANGELOG.md", "with the statuses 7 to {}", [max(statuses.values())]),
         ("CHANGELOG.md", "nests more than {} deep answers `TooDeep`", [lines]),
@@ -266,9 +271,11 @@ def of_limits():
         ("docs/FILTERS.md", "- At most {} connectives and parentheses nest", [nested]),
         ("docs/FILTERS.md", "- and at most {} connectives and parentheses nest", [nested]),
         ("docs/FILTERS.md", "a chain has at most {} parts", [nested + 1]),
+        ("docs/FILTERS.md", "{} if the filter can be False, plus {} if it can be Unknown, plus {} if", bits),
         ("docs/FILTERS.md", "from Rust and Python {}, if nothing is said", [constant("bindings/rust/src/filter.rs", "DEPTH")]),
         ("docs/SEARCHES.md", "for each zone of {} records", [int(records)]),
         ("docs/SEARCHES.md", "strings cut to {} bytes", [int(cut)]),
+        ("docs/SEARCHES.md", "{} says that the input is above a megabyte and {} that there was no answer; {} says", [*map(int, ends)]),
     ]
 
 
@@ -319,6 +326,36 @@ def first_bytes():
         yield is_right, f"docs/KEYS.md: the first bytes {row} are not {names_of_row}"
 
 
+def hexadecimal(cells):
+    """Returns the bytes in backticks, and all between two with `to` between."""
+    found = [int(code, 16) for code in re.findall(r"`([0-9a-f]{2})`", cells)]
+    return list(range(found[0], found[-1] + 1)) if " to " in cells else found
+
+
+def filter_bytes():
+    """The bytes of types and of filters in FILTER_ENCODING.md are those of the sources."""
+    path = "crates/filter_encoding/src/types.rt"
+    plain = [int(max(codes)) for codes in re.findall(r"PType::\w+ => (\d+)|Some\((\d+) \+", read(path))]
+    nullable = [constant(path, "NULLABLE") + code for code in plain] + [constant(path, "NULL")]
+    heads = [int(code) for code in re.findall(r"::\w+ => (\d+)", read("crates/filter_encoding/src/heads.rt"))]
+    types, _, filters = section("docs/FILTER_ENCODING.md", "The bytes").partition("\n| Filter | Bytes |\n")
+    for name, wanted in [("takes no null", plain), ("takes a null", nullable)]:
+        row = re.search(rf"^\| {name} \| (.*) \|$", types, re.MULTILINE)[1]
+        yield hexadecimal(row) == wanted, f"docs/FILTER_ENCODING.md: what {name} has the bytes {wanted}"
+    said = [code for row in re.findall(r"^\| .* \| (.*) \|$", filters, re.MULTILINE) for code in hexadecimal(row)]
+    yield said == heads, f"docs/FILTER_ENCODING.md: filters have the bytes {heads}"
+
+
+def examples():
+    """The encodings in blocks of STATISTICS.md and FILTER_ENCODING.md are those of theorems in specs/Examples."""
+    for page, crate in [("docs/STATISTICS.md", "statistics_bytes"), ("docs/FILTER_ENCODING.md", "filter_encoding")]:
+        theorems = " ".join(read(f"crates/{crate}/specs/Examples.antt").split())
+        found = re.findall(r"^```\n([0-9a-f ]+)\n```$", read(page), re.MULTILINE)
+        yield found, f"{page}: no block is an encoding"
+        for block in found:
+            yield " ∷ ".join(map(str, bytes.fromhex(block))) + " ∷ []" in theorems, f"{page}: no theorem has {block}"
+
+
 def versions():
     """Each document names the version of upstream that NOTICE has."""
     version = r"vortex-array (\d+\.\d+\.\d+)"
@@ -335,4 +372,5 @@ def lengths():
         yield counts[page] <= most, f"{page}: {counts[page]} words, of at most {most}"
 
 
-CHECKS = [names, links, printed_claims, tables, blocks, crates, numbers, quotients, first_bytes, versions, lengths]
+CHECKS = [names, links, printed_claims, tables, blocks, crates, numbers, quotients]
+CHECKS += [first_bytes, filter_bytes, examples, versions, lengths]
