@@ -93,6 +93,16 @@ def names():
                 yield os.path.exists(f"{TOP}/{code}"), f"{page}: no file is {code}"
 
 
+def calls():
+    """Each TYPE::CALL in backticks is a call that tools/claims prints, or one of the Rust crate."""
+    known = {claim.name.split(" for ")[-1] for crate in claims.library_crates() for claim in claims.public_claims(crate)}
+    rust = "\n".join(read(path) for path in files("bindings/rust/src", ".rs"))
+    for page in DOCUMENTS:
+        for owner, call in re.findall(r"\b([A-Z]\w+)::([a-z]\w*)\b", " ".join(codes(page))):
+            is_rust = re.search(rf"\bfn {call}\b", rust) and re.search(rf"\bstruct {owner}\b", rust)
+            yield f"{owner}::{call}" in known or is_rust, f"{page}: no call is {owner}::{call}"
+
+
 def anchors(page):
     """Returns the headings of a document as links name them."""
     heads = re.findall(r"^#+ (.+)$", read(page), re.MULTILINE)
@@ -372,5 +382,5 @@ def lengths():
         yield counts[page] <= most, f"{page}: {counts[page]} words, of at most {most}"
 
 
-CHECKS = [names, links, printed_claims, tables, blocks, crates, numbers, quotients]
+CHECKS = [names, calls, links, printed_claims, tables, blocks, crates, numbers, quotients]
 CHECKS += [first_bytes, filter_bytes, examples, versions, lengths]
