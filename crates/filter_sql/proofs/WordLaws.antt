@@ -7,7 +7,7 @@ use Rattle.vortex_dtype.specs.TypeTree.{TypeTree}
 use Rattle.vortex_cells.specs.Cells.{Cell}
 use Rattle.vortex_filter.specs.Formula.{Formula, constant, comparison, null_test, membership, range, prefix_test, both, either, negation}
 use Rattle.vortex_filter.specs.declared.operator.CompareOperator.{CompareOperator}
-use Rattle.vortex_filter.proofs.LiteralTypes.{TypesSay}
+use Rattle.vortex_filter.proofs.LiteralTypes.{TypesAre, TypesSay, unshaped}
 use Rattle.logical_scalars.specs.Stored.{IsOfLogicalType}
 use Rattle.logical_scalars.specs.TypeShapes.{shape_in}
 use Rattle.logical_types.specs.Shapes.{shape_of}
@@ -21,8 +21,14 @@ use Rattle.filter_sql.specs.declared.literal_words.Word.{Word}
 pub shape_at : TypesSay → (t : TypeTree) (l : LogicalType) → IsOfLogicalType t l → shape_in t ≡ Some (shape_of l)
 shape_at say t l is = (say l t).1 is
 
+-- the type of no logical type
+pub is_none : TypesSay → TypesAre → (t : TypeTree) → ((l : LogicalType) → IsOfLogicalType t l → ⊥) → is_logical t ≡ false
+is_none say are t none = ap is_some (unshaped say are t none)
+
 pub is_one : TypesSay → (t : TypeTree) (l : LogicalType) → IsOfLogicalType t l → is_logical t ≡ true
 is_one say t l is = ap is_some (shape_at say t l is)
+
+pub ruleset logicals = (is_one, is_none)
 
 -- ---- literals that have no words
 
@@ -137,6 +143,8 @@ pub either_added : (p q : Formula) (old mid now : LiteralWords) → AddsWords p 
 either_added p q old mid now a b = let w = both_add p q old mid now a b in record { words = w.words; are = λ rest. (w.first rest, w.second rest); ends = w.ends; added = w.added }
 
 pub ruleset gathered = (constant_added, null_test_added, comparison_added, prefix_added, membership_added, range_added, negation_added, both_added, either_added)
+
+pub ruleset all_words = (no_words, all_added)
 
 -- ---- words that are looked up
 

@@ -5,6 +5,7 @@ use Rattle.vortex_cells.specs.Cells.{Cell}
 use Rattle.vortex_filter.specs.Formula.{Formula, constant, comparison, null_test, membership, range, prefix_test, both, either, negation}
 use Rattle.filter_sql.specs.LiteralWords.{AreWordsOf, AreWordsOfEach, IsWordOf, LiteralWords, WordTree, is_logical, words_behind}
 
+-- whether the cell is of a logical type
 abbrev pub is_logical_cell : Cell → Bool
 is_logical_cell x = is_logical x.typed
 

@@ -28,6 +28,7 @@ pub(crate) enum Word {
 
 /// The words of a filter's literals, in reading order. None at all, and no memory taken, if no
 /// literal is of a logical type.
+#[tactic(auto, using(crate::proofs::WordLaws::all_words))]
 pub(crate) fn words_of(alloc: Global, filter: &Filter) -> Result<Vec<Option<Word>>, AllocError>
     ensures { IfOk result (λ words. AreWordsOf (word_trees words.items) (formula filter.now)) }
 {
@@ -77,6 +78,7 @@ fn any_logical(literals: &[Scalar]) -> bool
 }
 
 /// Appends the words of a filter's literals.
+#[tactic(auto, using(crate::proofs::WordLaws::gathered))]
 fn push_words(
     alloc: Global,
     filter: &Filter,

@@ -1,30 +1,20 @@
 -- The value of a logical type that a cell is.
-use mir.Syntax.{w128}
-use Rattle.std.proofs.Common.{◌≡◌, ◌<◌, ◌^◌, ℕ, ℤ, FitsSigned, List, Some, unsigned_abs, refl, sym, ap, subst, ◌∙◌}
-use Rattle.std.specs.Cmp.{int_cmp_is}
-use Rattle.std.specs.Cmp.Lexicographic.{slice_cmp}
-use Rattle.std.specs.Ordering.{int_cmp, nat_cmp}
-use Rattle.std.specs.declared.cmp.Ordering.TheVariants.{Equal}
-use Rattle.std.proofs.lemmas.Map.Lookups.{exact_signed}
+use Rattle.std.proofs.Common.{◌≡◌, ◌<◌, ◌^◌, ℕ, ℤ, Some, unsigned_abs, sym, ap, subst, ◌∙◌}
 use Rattle.vortex_dtype.specs.TypeTree.{TypeTree}
 use Rattle.vortex_cells.specs.Cells.{Cell}
 use Rattle.logical_scalars.specs.Stored.{IsOfLogicalType}
 use Rattle.logical_types.specs.Clock.{IsTimeOfDay}
-use Rattle.logical_types.specs.Extensions.{FitsStorage, storage_type_of}
+use Rattle.logical_types.specs.Extensions.{storage_type_of}
 use Rattle.logical_types.specs.Shapes.{Shape, shape_of, stored_as}
-use Rattle.logical_types.specs.Storing.{decimal_bytes}
 use Rattle.logical_types.specs.Times.{IsTimestamp}
 use Rattle.logical_types.specs.Words.{IsStorageOf}
 use Rattle.logical_types.specs.declared.extensions.StorageType.{StorageType}
-use Rattle.logical_types.specs.declared.extensions.StorageType.TheVariants.{I32, I64, Bytes}
 use Rattle.logical_types.specs.declared.logical.LogicalType.{LogicalType}
 use Rattle.logical_types.specs.declared.logical.LogicalType.TheVariants.{Float64, Float32, Decimal, Date, Time, Timestamp}
 use Rattle.logical_types.specs.declared.times.TimeUnit.{TimeUnit}
 use Rattle.vortex_filter.specs.Literals.{storage_content}
 use Rattle.vortex_filter.specs.LogicalValues.{IsLogicalValue}
 use Rattle.vortex_filter.proofs.LiteralTypes.{TypesSay, storage_is}
-
--- ---- types with one shape
 
 one_shape : (s q : Shape) → Some s ≡ Some q → s ≡ q
 one_shape s q e = cc
@@ -52,25 +42,4 @@ same_value say l m z x of is =
 pub no_value : TypesSay → (m : LogicalType) (x : Cell) → IsOfLogicalType x.typed m → ((z : ℤ) → IsLogicalValue m z x → ⊥) → (l : LogicalType) (z : ℤ) → IsLogicalValue l z x → ⊥
 no_value say m x of none l z is = none z (same_value say l m z x of is)
 
--- ---- contents store one number
-
-abbrev pub BytesSort : Type 0
-BytesSort = (x y : ℤ) → FitsSigned w128 x → FitsSigned w128 y → slice_cmp nat_cmp (decimal_bytes x) (decimal_bytes y) ≡ int_cmp x y
-
-itself : (z : ℤ) → int_cmp z z ≡ Equal
-itself z = sym (int_cmp_is z z Equal refl)
-
-one_number : BytesSort → (y z : ℤ) → FitsSigned w128 y → FitsSigned w128 z → decimal_bytes y ≡ decimal_bytes z → y ≡ z
-one_number sort y z a b e = exact_signed y z (sym (sort y z a b) ∙ ap (λ (bs : List ℕ). slice_cmp nat_cmp bs (decimal_bytes z)) e ∙ sort z z b b ∙ itself z)
-
-one_storage : BytesSort → (k : StorageType) (y z : ℤ) → FitsStorage k y → FitsSigned w128 z → storage_content k y ≡ storage_content k z → y ≡ z
-one_storage sort I32 y z a b e = cc
-one_storage sort I64 y z a b e = cc
-one_storage sort Bytes y z a b e = let same : decimal_bytes y ≡ decimal_bytes z = cc in one_number sort y z a b same
-
--- a number that is no storage is stored by no value
-pub no_storage : BytesSort → (l : LogicalType) (z : ℤ) (x : Cell) → FitsSigned w128 z → ((y : ℤ) → IsStorageOf l y → FitsStorage (storage_type_of l) y) → x.content ≡ storage_content (storage_type_of l) z → (IsStorageOf l z → ⊥)
-    → (y : ℤ) → IsLogicalValue l y x → ⊥
-no_storage sort l z x small fit stored none y is =
-    let same : y ≡ z = one_storage sort (storage_type_of l) y z (fit y is.value) small (sym is.stored ∙ stored) in
-    none (subst (IsStorageOf l) same is.value)
+pub ruleset values = (no_value)

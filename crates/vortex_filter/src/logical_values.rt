@@ -14,15 +14,20 @@ use vortex_value::{Scalar, ScalarValue};
 
 /// The logical type and the storage of the value that a scalar is. None of a null, of a scalar of
 /// another type, and of one that is no value of its logical type.
+#[tactic(auto, using(crate::proofs::LogicalValueLaws::values))]
 pub fn logical_value(scalar: &Scalar) -> Option<(LogicalType, i128)>
     ensures some { IfSome result (λ found. IsLogicalValue found.0 found.1 (cell_of scalar.now)) }
     ensures none { IfNone result ((l : LogicalTypes) (z : ℤ)
         → ¬ (IsLogicalValue l z (cell_of scalar.now))) }
 {
     shapes_say_types();
-    let logical = logical_type_of(&scalar.dtype)?;
-    let storage = value_in(logical, scalar)?;
-    Some((logical, storage))
+    let Some(logical) = logical_type_of(&scalar.dtype) else {
+        return None;
+    };
+    match value_in(logical, scalar) {
+        Some(storage) => Some((logical, storage)),
+        None => None,
+    }
 }
 
 /// The storage of the value that a scalar of a logical type is.
