@@ -1,5 +1,5 @@
 -- What a comparison says of two values of one logical type.
-use Rattle.std.proofs.Common.{◌≡◌, ◌∙◌, Bool, true, false, ℤ, Some, ap}
+use Rattle.std.proofs.Common.{◌≡◌, ◌∙◌, Bool, true, false, ℤ, Some, ap, refl}
 use Rattle.std.specs.Ordering.{int_cmp}
 use Rattle.vortex_value.specs.Values.Content.{content, is_null_content}
 use Rattle.vortex_value.specs.Values.Scalars.{scalar_order}
