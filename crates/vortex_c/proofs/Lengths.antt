@@ -48,14 +48,25 @@ bound_short o false false (Some a) b = omega arith
 encoding_length : (s : Known) → length (encoding s) ≡ 10 + (length (known_count_bytes s.null_count) + (length (bound_bytes s.lower) + length (bound_bytes s.upper)))
 encoding_length s =
     let front : length (1 ∷ flags s ∷ count_bytes s.row_count) ≡ 10 = refl in
-    omega (arith, front, length-append (1 ∷ flags s ∷ count_bytes s.row_count) (known_count_bytes s.null_count ++ (bound_bytes s.lower ++ bound_bytes s.upper)),
-    length-append (known_count_bytes s.null_count) (bound_bytes s.lower ++ bound_bytes s.upper), length-append (bound_bytes s.lower) (bound_bytes s.upper))
+    omega (
+      arith,
+      front,
+      length-append (1 ∷ flags s ∷ count_bytes s.row_count) (known_count_bytes s.null_count ++ (bound_bytes s.lower ++ bound_bytes s.upper)),
+      length-append (known_count_bytes s.null_count) (bound_bytes s.lower ++ bound_bytes s.upper),
+      length-append (bound_bytes s.lower) (bound_bytes s.upper),
+    )
 
 both_short : (s u : Known) → length (encoding (merged s u)) ≤ length (encoding s) + length (encoding u)
 both_short s u =
-    omega (arith, encoding_length (merged s u), encoding_length s, encoding_length u, nulls_short s.null_count u.null_count,
-    bound_short (bound_order cell_order s.lower u.lower) (may_be_value s) (may_be_value u) s.lower u.lower,
-    bound_short (bound_order order_from_above s.upper u.upper) (may_be_value s) (may_be_value u) s.upper u.upper)
+    omega (
+      arith,
+      encoding_length (merged s u),
+      encoding_length s,
+      encoding_length u,
+      nulls_short s.null_count u.null_count,
+      bound_short (bound_order cell_order s.lower u.lower) (may_be_value s) (may_be_value u) s.lower u.lower,
+      bound_short (bound_order order_from_above s.upper u.upper) (may_be_value s) (may_be_value u) s.upper u.upper,
+    )
 
 pub merged_short : (t : TypeTree) (one other bytes : List ℕ) → IsMergedEncoding t one other bytes → length bytes ≤ length one + length other
 merged_short t one other bytes h =
