@@ -8,8 +8,6 @@ use Rattle.vortex_dtype.specs.declared.types.DType.{DType}
 use Rattle.vortex_value.specs.Validity.{Valid}
 use Rattle.vortex_value.specs.Values.Content.{Content, content, text, string}
 use Rattle.vortex_value.specs.Values.RawTree.{RawTree, absent, raw_bytes, raw_text}
-use Rattle.vortex_value.specs.Values.Scalars.{scalar_content, scalar_raw}
-use Rattle.vortex_value.specs.declared.scalars.Scalar.{Scalar}
 use Rattle.vortex_row.specs.Held.{IsHeld}
 use Rattle.vortex_row.specs.Keys.{key}
 use Rattle.vortex_row.proofs.ApartLaws.{key-apart}

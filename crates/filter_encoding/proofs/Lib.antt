@@ -9,4 +9,5 @@ pub mod ReadSteps
 pub mod ReadableLaws
 pub mod Stuck
 pub mod TypeLaws
+pub mod ValueLaws
 pub mod WriteSteps

@@ -107,11 +107,13 @@ fn read_version(reader: &mut Reader<'_>) -> Result<(), FilterDecodeError>
         (λ e. (left reader.new ≡ left reader.old)
         × ((version : ℕ) (bs : List ℕ) → IsVersion version → left reader.old ≢ version ∷ bs)) }
 {
-    if reader.takes(PLAIN) || reader.takes(EXTENDED) {
-        Ok(())
-    } else {
-        Err(FilterDecodeError::Bad)
+    if reader.takes(PLAIN) {
+        return Ok(());
     }
+    if reader.takes(EXTENDED) {
+        return Ok(());
+    }
+    Err(FilterDecodeError::Bad)
 }
 
 /// The next filter, in which at most so many connectives nest.

@@ -9,12 +9,19 @@ use vortex_filter::{Filter, logical_value};
 use vortex_value::Scalar;
 
 /// Whether a literal of a logical type is null, or a value of it.
+#[tactic(auto, using(crate::proofs::ValueLaws::scalars))]
 pub(crate) fn is_logically_valid(literal: &Scalar) -> bool
     ensures { IsTrue result ↔ IsLogicallyValid (cell_of literal.now) }
 {
-    match logical_type_of(&literal.dtype) {
-        Some(_) => literal.value().is_none() || logical_value(literal).is_some(),
-        None => true,
+    let Some(_) = logical_type_of(&literal.dtype) else {
+        return true;
+    };
+    if literal.is_null() {
+        return true;
+    }
+    match logical_value(literal) {
+        Some(_) => true,
+        None => false,
     }
 }
 

@@ -86,7 +86,7 @@ power_again (Some p) rest is ends =
     let letter : is_e p.letter ≡ true = grind (arith, nat_tests, is.0) in
     rw letter (ap after_digits (sign_again p.sign p.digits rest is.1) ∙ digits_again p.digits rest is.1 ends.digit)
 
-an_e : (b : ℕ) → to_ascii_lowercase b ≡ 101 → (b ≡ 69) ⊎ (b ≡ 101)
+pub an_e : (b : ℕ) → to_ascii_lowercase b ≡ 101 → (b ≡ 69) ⊎ (b ≡ 101)
 an_e b h = grind (arith, nat_tests)
 
 -- the byte behind the digits of a fraction, and behind those before a point

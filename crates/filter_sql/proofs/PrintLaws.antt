@@ -99,9 +99,9 @@ text_is (negsuc m) = ap (λ (l : List ℕ). 45 ∷ l) (sym (append-nil (decimal 
 numeral_of : (m : ℕ) → m < 2 ^ 64 → IsNumeral 10 (decimal m)
 numeral_of m small = (decimal_is_IsNumeral m small).0
 
-is_number : (z : ℤ) → unsigned_abs z < 2 ^ 64 → IsNumber (integer_text z)
-is_number (pos m) small = record { negative = false; whole = decimal m; fraction = None; power = None; text = sym (append-nil (decimal m)); digits = numeral_of m small; places = tt; raised = tt }
-is_number (negsuc m) small =
+digits_are_number : (z : ℤ) → unsigned_abs z < 2 ^ 64 → IsNumber (integer_text z)
+digits_are_number (pos m) small = record { negative = false; whole = decimal m; fraction = None; power = None; text = sym (append-nil (decimal m)); digits = numeral_of m small; places = tt; raised = tt }
+digits_are_number (negsuc m) small =
     record { negative = true; whole = decimal (suc m); fraction = None; power = None; text = ap (λ (l : List ℕ). 45 ∷ l) (sym (append-nil (decimal (suc m)))); digits = numeral_of (suc m) small; places = tt; raised = tt }
 
 integer_small : (k : PType) (z : ℤ) → in_range k z ≡ true → unsigned_abs z < 2 ^ 64
@@ -117,7 +117,7 @@ number_printed : IntegersThere → (k : PType) (z : ℤ) (n : _) → InRange k z
 unfolding literal_of
 number_printed there k z n inside =
     let h = in_range_true k z inside in
-    record { literal = number_literal (integer_text z); says = refl; stands = integer_there there k z h; token = is_number z (integer_small k z h) }
+    record { literal = number_literal (integer_text z); says = refl; stands = integer_there there k z h; token = digits_are_number z (integer_small k z h) }
 
 -- ---- values of logical types
 

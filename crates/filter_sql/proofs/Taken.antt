@@ -2,11 +2,12 @@
 use Rattle.std.proofs.Common.{◌≡◌, ◌≢◌, ◌⊎◌, inl, inr, ℕ, zero, suc, ◌+◌, ◌-◌, ◌<◌, ◌≤◌, ◌||◌, ◌&&◌, List, [], ◌∷◌, ◌++◌, Option, Some, None, IfSome, option_and_then, Bool, true, false, not, cond, Result, Ok, Err, append_assoc, append-nil, add-one, add-zero, nat_lt, length-append, length, get_or, take, drop, map, refl, sym, ap, ◌∙◌, subst, arith, ◌==◌, ⊎_elim, length-take-le, get_or-drop, take-append-drop, ltb-true}
 use Rattle.std.proofs.str.Laws.{order}
 use Rattle.std.specs.Char.{digit_value, is_ascii_digit, to_ascii_lowercase}
-use Rattle.std.specs.List.{prefix_len, position_or_len, list_all, find}
+use Rattle.std.specs.List.{AllByRecursion, prefix_len, position_or_len, list_all, find}
 use Rattle.std.specs.Str.{IsCharBoundary, IsUtf8, bytes_eq}
 use Rattle.std.proofs.lemmas.Str.{IsCharBoundary-at_seam}
 use Rattle.std.proofs.lemmas.Slice.Eq.{bytes_eq-Decides}
 use Rattle.std.specs.Str.Parse.{AllDigits, IsNumeral}
+use Rattle.std.proofs.lemmas.Str.Parse.{digit_from_value}
 use Rattle.std.proofs.lemmas.Bool.Decides.{nat_tests}
 use Rattle.std.proofs.lemmas.List.{drop_more, drop_all}
 use Rattle.std.proofs.lemmas.List.Sums.{prefix_len-le-length, prefix_len_passes, prefix_len_stops}
@@ -17,7 +18,8 @@ use Rattle.filter_sql.specs.declared.lex.LexError.{LexError}
 use Rattle.filter_sql.specs.declared.token.Keyword.{Keyword}
 use Rattle.filter_sql.specs.Tokens.{TokenTree, name_token, number_token, bytes_token, operator_token, opening, closing, comma, doubled, quoted, sign_text, Power, Sign, no_sign, plus_sign, minus_sign, IsNumber, IsPower, fraction_text, is_e, is_point, number_goes_on, power_sign, power_text, all_keywords, keyword_text, keyword_named, is_word, is_word_byte, is_word_start, is_x, goes_on, IsFront, Spells}
 use Rattle.filter_sql.specs.Lexing.{Cut, after_digits, after_fraction, after_minus, after_number, after_power, after_sign, bytes_at, bytes_cut, cut_after, is_all, is_number, is_quote, mark_of, number_at, number_cut, other_at, parameter_at, quoted_cut, quoted_token, token_at, unquoted_at, with_byte, word_at, word_token}
-use Rattle.filter_sql.proofs.Again.{AllPassing, both_true, hex_text, quoted_text, regrouped, take_word}
+use Rattle.filter_sql.proofs.Cuts.{text_after}
+use Rattle.filter_sql.proofs.Again.{AllPassing, an_e, both_true, hex_text, quoted_text, regrouped, take_word}
 
 -- the text begins with the token, which takes at least a byte, and goes on so
 pub record Taken (text : List ℕ) (t : TokenTree) (after : List ℕ) : Type 0 where
@@ -307,10 +309,59 @@ unsigned_taken text rest h =
       some = simp length-append (omega (arith, d.numeral.0));
     }
 
+-- a number is in ASCII
+
+abbrev AllAscii : List ℕ → Type 0
+AllAscii bs = AllByRecursion (λ b. b < 128) bs
+
+ascii_append : (xs ys : List ℕ) → AllAscii xs → AllAscii ys → AllAscii (xs ++ ys)
+ascii_append [] ys h g = g
+ascii_append (x ∷ xs) ys h g = (h.0, ascii_append xs ys h.1 g)
+
+ascii_digits : (ds : List ℕ) → AllDigits 10 ds → AllAscii ds
+ascii_digits [] h = tt
+ascii_digits (d ∷ ds) h =
+    let range = digit_from_value d h.0 in
+    let small : d < 128 = grind arith in
+    (small, ascii_digits ds h.1)
+
+ascii_minus : (negative : Bool) → AllAscii (sign_text negative)
+ascii_minus true = (omega arith, tt)
+ascii_minus false = tt
+
+ascii_fraction : (fraction : Option (List ℕ)) → IfSome fraction (IsNumeral 10) → AllAscii (fraction_text fraction)
+ascii_fraction None h = tt
+ascii_fraction (Some digits) h = (omega arith, ascii_digits digits h.1)
+
+ascii_sign : (sign : Sign) → AllAscii (power_sign sign)
+ascii_sign no_sign = tt
+ascii_sign plus_sign = (omega arith, tt)
+ascii_sign minus_sign = (omega arith, tt)
+
+ascii_letter : (b : ℕ) → (b ≡ 69) ⊎ (b ≡ 101) → b < 128
+ascii_letter b (inl upper) = omega (arith, upper)
+ascii_letter b (inr lower) = omega (arith, lower)
+
+ascii_power : (power : Option Power) → IfSome power IsPower → AllAscii (power_text power)
+ascii_power None h = tt
+ascii_power (Some p) h = (ascii_letter p.letter (an_e p.letter h.0), ascii_append (power_sign p.sign) p.digits (ascii_sign p.sign) (ascii_digits p.digits h.1.1))
+
+ascii_number : (word : List ℕ) → IsNumber word → AllAscii word
+ascii_number word is =
+    let tail = ascii_append (fraction_text is.fraction) (power_text is.power) (ascii_fraction is.fraction is.places) (ascii_power is.power is.raised) in
+    let unsigned = ascii_append is.whole (fraction_text is.fraction ++ power_text is.power) (ascii_digits is.whole is.digits.1) tail in
+    subst AllAscii (sym is.text) (ascii_append (sign_text is.negative) (is.whole ++ (fraction_text is.fraction ++ power_text is.power)) (ascii_minus is.negative) unsigned)
+
+-- what follows ASCII is text
+text_behind : (xs rest : List ℕ) → AllAscii xs → IsUtf8 (xs ++ rest) → IsUtf8 rest
+text_behind [] rest a utf8 = utf8
+text_behind (x ∷ xs) rest a utf8 = text_behind xs rest a.1 (text_after x (x ∷ (xs ++ rest)) [] (xs ++ rest) utf8 refl a.0)
+
 -- the word of a number may be cut off
-pub number_seam : (text rest : List ℕ) → after_number (after_minus text) ≡ Some rest → IsUtf8 rest → (length rest ≤ length text) × IsCharBoundary text (length text - length rest)
-number_seam text rest h utf8 =
+pub number_seam : (text rest : List ℕ) → after_number (after_minus text) ≡ Some rest → IsUtf8 text → (length rest ≤ length text) × IsCharBoundary text (length text - length rest)
+number_seam text rest h whole =
     let n = unsigned_taken text rest h in
+    let utf8 : IsUtf8 rest = text_behind n.word rest (ascii_number n.word n.is) (subst IsUtf8 n.whole whole) in
     let size : length text ≡ length n.word + length rest = ap length n.whole ∙ length-append n.word rest in
     let count : length n.word ≡ length text - length rest = omega (arith, size) in
     (omega (arith, size), subst (IsCharBoundary text) count (IsCharBoundary-at_seam text n.word rest n.whole utf8))

@@ -1,10 +1,11 @@
 -- The words of literals: of one, of several, and of none where no literal is of a logical type.
-use Rattle.std.proofs.Common.{◌≡◌, ◌||◌, ℕ, zero, suc, Bool, true, false, List, [], ◌∷◌, ◌++◌, length, drop, Option, Some, None, append_assoc, append-nil, refl, sym, ap, subst, ◌∙◌}
-use Rattle.std.specs.Prelude.{is_some, option_map, slice_get}
+use Rattle.std.proofs.Common.{◌≡◌, ◌||◌, ℕ, zero, suc, Bool, true, false, List, [], ◌∷◌, ◌++◌, length, drop, get_or, Option, Some, None, append_assoc, append-nil, refl, sym, ap, subst, ◌∙◌}
+use Rattle.std.specs.Prelude.{is_some, map, option_map}
 use Rattle.std.specs.List.{list_any}
-use Rattle.std.proofs.lemmas.Option.{slice_get-map}
 use Rattle.vortex_dtype.specs.TypeTree.{TypeTree}
-use Rattle.vortex_cells.specs.Cells.{Cell}
+use Rattle.vortex_dtype.specs.TypeOf.{type_of}
+use Rattle.vortex_value.specs.declared.scalars.Scalar.{Scalar}
+use Rattle.vortex_cells.specs.Cells.{Cell, cell_of}
 use Rattle.vortex_filter.specs.Formula.{Formula, constant, comparison, null_test, membership, range, prefix_test, both, either, negation}
 use Rattle.vortex_filter.specs.declared.operator.CompareOperator.{CompareOperator}
 use Rattle.vortex_filter.proofs.LiteralTypes.{TypesAre, TypesSay, unshaped}
@@ -148,15 +149,14 @@ pub ruleset all_words = (no_words, all_added)
 
 -- ---- words that are looked up
 
-abbrev flat : Option (Option WordTree) → Option WordTree
-flat None = None
-flat (Some w) = w
+pub word_there : (words : List (Option Word)) (k : ℕ) → first_word (drop k (word_trees words)) ≡ option_map word_tree (get_or words k None)
+word_there [] zero = refl
+word_there [] (suc k) = refl
+word_there (w ∷ ws) zero = refl
+word_there (w ∷ ws) (suc k) = word_there ws k
 
-first_left : (ws : LiteralWords) (k : ℕ) → first_word (drop k ws) ≡ flat (slice_get ws k)
-first_left [] zero = refl
-first_left [] (suc k) = refl
-first_left (w ∷ ws) zero = refl
-first_left (w ∷ ws) (suc k) = first_left ws k
+-- ---- logical types among scalars
 
-pub word_there : (words : List (Option Word)) (k : ℕ) → first_word (drop k (word_trees words)) ≡ flat (option_map (option_map word_tree) (slice_get words k))
-word_there words k = first_left (word_trees words) k ∙ ap flat (slice_get-map (option_map word_tree) words k)
+pub any_logical_cell : (xs : List Scalar) → list_any is_logical_cell (map cell_of xs) ≡ list_any (λ x. is_logical (type_of x.dtype)) xs
+any_logical_cell [] = refl
+any_logical_cell (x ∷ xs) = ap (λ (b : Bool). is_logical (type_of x.dtype) || b) (any_logical_cell xs)

@@ -2,6 +2,7 @@
 
 ghost use Rattle.std.specs.Prelude.{◌≡◌, IfOk, OnOk, drop, map, option_map, string_bytes};
 ghost use Rattle.std.specs.List.{list_any};
+ghost use Rattle.std.specs.Option.{option_copied};
 ghost use Rattle.filter_sql.specs.Choosing.{AddsEach, AddsWord, AddsWords, has_logical, is_logical_cell};
 ghost use Rattle.filter_sql.specs.LiteralWords.{AreWordsOf, IsWordOf, first_word, is_logical, is_numeric, printed_word};
 ghost use Rattle.filter_sql.specs.LiteralWords.{word_tree, word_trees, words_behind};
@@ -173,11 +174,11 @@ fn is_numeric(logical: LogicalType) -> bool
 
 /// The word at a place, if there is one.
 pub(crate) fn word_at(words: &[Option<Word>], place: usize) -> Option<&Word>
-    ensures { option_map (λ word. word_tree word.now) result ≡ first_word (drop place (word_trees words.now)) }
+    ensures { option_map word_tree (option_copied result) ≡ first_word (drop place (word_trees words.now)) }
 {
     match words.get(place) {
-        Some(Some(word)) => Some(word),
-        _ => None,
+        Some(word) => word.as_ref(),
+        None => None,
     }
 }
 

@@ -2,6 +2,7 @@
 
 ghost use Rattle.std.specs.Prelude.{◌≡◌, ◌++◌, ◌∷◌, ◌+◌, ◌<◌, ◌==◌, [], Some, codes, drop, map, option_map};
 ghost use Rattle.std.specs.Prelude.{if◌then◌else◌, IfOk};
+ghost use Rattle.std.specs.Option.{option_copied};
 ghost use Rattle.filter_sql.specs.Words.{WritesOnOk, decimal, list_any, and_text, cell_of, chars, column_text};
 ghost use Rattle.filter_sql.specs.Words.{comparison_text, constant_keyword, doubled, encode_lower, escape_text};
 ghost use Rattle.filter_sql.specs.Words.{flat_map, formula, group_text, is_special, keyword_text, like_text};
@@ -187,7 +188,7 @@ fn write_literal<W: Write>(
     f: &mut Formatter<W>,
 ) -> fmt::Result
     ensures { WritesOnOk W.write_str_gives f.old result
-        (literal_text (option_map (λ word. word_tree word.now) word.entry) (cell_of literal.now)) f.new }
+        (literal_text (option_map word_tree (option_copied word.entry)) (cell_of literal.now)) f.new }
 {
     match word {
         Some(word) => write_word(word, f),

@@ -1,5 +1,4 @@
 -- An extension, or a type with a byte.
-use Rattle.std.proofs.Common.{sym}
 use Rattle.vortex_dtype.specs.TypeOf.{type_of}
 use Rattle.filter_encoding.proofs.ExtensionLaws.{byte_written, extension_written}
 use Rattle.filter_encoding.proofs.types.append_type.Goals as goal
