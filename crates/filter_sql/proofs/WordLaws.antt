@@ -1,5 +1,5 @@
 -- The words of literals: of one, of several, and of none where no literal is of a logical type.
-use Rattle.std.proofs.Common.{◌≡◌, ◌||◌, ℕ, zero, suc, Bool, true, false, List, [], ◌∷◌, ◌++◌, length, drop, get_or, Option, Some, None, append_assoc, append-nil, refl, sym, ap, subst, ◌∙◌}
+use Rattle.std.proofs.Common.{◌≡◌, ◌||◌, ◌<◌, ◌+◌, ℕ, zero, suc, Bool, true, false, List, [], ◌∷◌, ◌++◌, length, drop, drop-cons, get_or, Option, Some, None, append_assoc, append-nil, refl, sym, ap, subst, ◌∙◌, arith}
 use Rattle.std.specs.Prelude.{is_some, map, option_map}
 use Rattle.std.specs.List.{list_any}
 use Rattle.vortex_dtype.specs.TypeTree.{TypeTree}
@@ -157,6 +157,27 @@ word_there (w ∷ ws) (suc k) = word_there ws k
 
 -- ---- logical types among scalars
 
-pub any_logical_cell : (xs : List Scalar) → list_any is_logical_cell (map cell_of xs) ≡ list_any (λ x. is_logical (type_of x.dtype)) xs
-any_logical_cell [] = refl
-any_logical_cell (x ∷ xs) = ap (λ (b : Bool). is_logical (type_of x.dtype) || b) (any_logical_cell xs)
+-- the scalar at a place, and the rest
+pub any_logical-at : (i : ℕ) (xs : List Scalar) (x : Scalar) → i < length xs → x ≡ get_or xs i x
+    → list_any is_logical_cell (map cell_of (drop i xs)) ≡ (is_logical (type_of x.dtype) || list_any is_logical_cell (map cell_of (drop (suc i) xs)))
+any_logical-at i xs x h is = let e = drop-cons xs i x h in rw (e, ← is) refl
+
+pub or_true : (b c : Bool) → b ≡ true → (b || c) ≡ true
+or_true b c h = rw h refl
+
+pub or_rest : (b c : Bool) → b ≡ false → (b || c) ≡ c
+or_rest b c h = rw h refl
+
+pub any_logical-rest : (i : ℕ) (xs : List Scalar) (x : Scalar) (b c : Bool) → i < length xs → x ≡ get_or xs i x → b ≡ is_logical (type_of x.dtype) → b ≡ false
+    → list_any is_logical_cell (map cell_of (drop i xs)) ≡ c → list_any is_logical_cell (map cell_of (drop (i + 1) xs)) ≡ c
+any_logical-rest i xs x b c less is e f h =
+    let one : i + 1 ≡ suc i = omega arith in
+    ap (λ n. list_any is_logical_cell (map cell_of (drop n xs))) one
+    ∙ sym (or_rest (is_logical (type_of x.dtype)) (list_any is_logical_cell (map cell_of (drop (suc i) xs))) (sym e ∙ f)) ∙ sym (any_logical-at i xs x less is) ∙ h
+
+pub any_logical-here : (i : ℕ) (xs : List Scalar) (x : Scalar) (b c : Bool) → i < length xs → x ≡ get_or xs i x → b ≡ is_logical (type_of x.dtype) → b ≡ true
+    → list_any is_logical_cell (map cell_of (drop i xs)) ≡ c → true ≡ c
+any_logical-here i xs x b c less is e f h =
+    sym (or_true (is_logical (type_of x.dtype)) (list_any is_logical_cell (map cell_of (drop (suc i) xs))) (sym e ∙ f)) ∙ sym (any_logical-at i xs x less is) ∙ h
+
+pub ruleset any_shown = (or_true, or_rest, any_logical-at)

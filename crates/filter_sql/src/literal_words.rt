@@ -72,10 +72,16 @@ fn has_logical(filter: &Filter) -> bool
 }
 
 /// Whether one of the literals is of a logical type.
+#[tactic(auto, using(crate::proofs::WordLaws::any_shown))]
 fn any_logical(literals: &[Scalar]) -> bool
     ensures { result ≡ list_any is_logical_cell (map cell_of literals.now) }
 {
-    literals.iter().any(|literal| is_logical(&literal.dtype))
+    for literal in literals {
+        if is_logical(&literal.dtype) {
+            return true;
+        }
+    }
+    false
 }
 
 /// Appends the words of a filter's literals.

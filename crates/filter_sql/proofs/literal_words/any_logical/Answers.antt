@@ -1,12 +1,11 @@
--- Whether the test holds of a scalar, or of its cell.
-use Rattle.std.proofs.Common.{◌≡◌, ◌∙◌, rules, sym}
-use Rattle.std.specs.List.{list_any}
-use Rattle.vortex_dtype.specs.TypeOf.{type_of}
-use Rattle.filter_sql.specs.LiteralWords.{is_logical}
-use Rattle.filter_sql.proofs.WordLaws.{any_logical_cell}
+-- The literals so far are of no logical type.
+use Rattle.filter_sql.proofs.WordLaws.{any_logical-here, any_logical-rest}
 use Rattle.filter_sql.proofs.literal_words.any_logical.Goals as goal
 
-pub returns : goal.returns
-returns c =
-    let any : c.any.result ≡ list_any (λ x. is_logical (type_of x.dtype)) c.args.literals.now = search rules in
-    any ∙ sym (any_logical_cell c.args.literals.now)
+pub returns-then-is_logical : goal.returns-then-is_logical
+returns-then-is_logical c =
+    any_logical-here c.loop-literal.literal-index c.args.literals.now c.literal-item.result _ _ c.loop-literal-test.true c.literal-item.is c.is_logical.ensures c.if-is_logical.true c.loop-literal.invariant
+
+pub loop-literal-preserved : goal.loop-literal-preserved
+loop-literal-preserved c =
+    any_logical-rest c.loop-literal.literal-index c.args.literals.now c.literal-item.result _ _ c.loop-literal-test.true c.literal-item.is c.is_logical.ensures c.if-is_logical.false c.loop-literal.invariant
