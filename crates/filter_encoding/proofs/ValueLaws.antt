@@ -1,5 +1,5 @@
 -- Which literals are values of their logical types.
-use Rattle.std.proofs.Common.{◌≡◌, ◌≢◌, ◌⊎◌, ◌||◌, inl, inr, ℤ, Bool, true, false, List, [], ◌∷◌, map, refl, ap}
+use Rattle.std.proofs.Common.{◌≡◌, ◌≢◌, ◌⊎◌, ◌||◌, ◌<◌, ◌+◌, inl, inr, ℕ, suc, ℤ, Bool, true, false, List, [], ◌∷◌, length, drop, drop-cons, get_or, map, refl, sym, ap, ◌∙◌, arith}
 use Rattle.std.specs.List.{list_any}
 use Rattle.vortex_value.specs.Values.Content.{content, null}
 use Rattle.vortex_value.specs.Values.RawTree.{RawTree, absent, is_absent}
@@ -29,9 +29,27 @@ no_valid x l of some none valid = by_case (valid l of)
     by_case (inr v) = none v.0 v.1 v.2
 
 -- a test of each, through a function
-pub any_through : {X Y : Type 0} (f : X → Y) (p : Y → Bool) (xs : List X) → list_any p (map f xs) ≡ list_any (λ x. p (f x)) xs
-any_through f p [] = refl
-any_through f p (x ∷ xs) = ap (λ b. p (f x) || b) (any_through f p xs)
+pub any-at : {X Y : Type 0} (f : X → Y) (p : Y → Bool) (i : ℕ) (xs : List X) (x : X) → i < length xs → x ≡ get_or xs i x
+    → list_any p (map f (drop i xs)) ≡ (p (f x) || list_any p (map f (drop (suc i) xs)))
+any-at f p i xs x h is = let e = drop-cons xs i x h in rw (e, ← is) refl
+
+or_true : (b c : Bool) → b ≡ true → (b || c) ≡ true
+or_true b c h = rw h refl
+
+or_rest : (b c : Bool) → b ≡ false → (b || c) ≡ c
+or_rest b c h = rw h refl
+
+-- the rest decides, if this one does not pass
+pub any-rest : {X Y : Type 0} (f : X → Y) (p : Y → Bool) (i : ℕ) (xs : List X) (x : X) (b c : Bool) → i < length xs → x ≡ get_or xs i x → b ≡ p (f x) → b ≡ false
+    → list_any p (map f (drop i xs)) ≡ c → list_any p (map f (drop (i + 1) xs)) ≡ c
+any-rest f p i xs x b c less is e no h =
+    let one : i + 1 ≡ suc i = omega arith in
+    ap (λ n. list_any p (map f (drop n xs))) one ∙ sym (or_rest (p (f x)) (list_any p (map f (drop (suc i) xs))) (sym e ∙ no)) ∙ sym (any-at f p i xs x less is) ∙ h
+
+-- one that passes decides
+pub any-here : {X Y : Type 0} (f : X → Y) (p : Y → Bool) (i : ℕ) (xs : List X) (x : X) (b c : Bool) → i < length xs → x ≡ get_or xs i x → b ≡ p (f x) → b ≡ true
+    → list_any p (map f (drop i xs)) ≡ c → true ≡ c
+any-here f p i xs x b c less is e yes h = sym (or_true (p (f x)) (list_any p (map f (drop (suc i) xs))) (sym e ∙ yes)) ∙ sym (any-at f p i xs x less is) ∙ h
 
 absent_null : (v : RawTree) → is_absent v ≡ true → content v ≡ null
 absent_null absent e = refl

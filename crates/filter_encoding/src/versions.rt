@@ -37,14 +37,24 @@ fn is_extension(dtype: &DType) -> bool
 fn any_extension(dtypes: &[DType]) -> bool
     ensures { result ≡ list_any is_extension (map type_of dtypes.now) }
 {
-    dtypes.iter().any(|dtype| is_extension(dtype))
+    for dtype in dtypes {
+        if is_extension(dtype) {
+            return true;
+        }
+    }
+    false
 }
 
 /// Whether one of the literals is of an extension.
 fn any_extended(literals: &[Scalar]) -> bool
     ensures { result ≡ list_any is_extended (map cell_of literals.now) }
 {
-    literals.iter().any(|literal| is_extension(&literal.dtype))
+    for literal in literals {
+        if is_extension(&literal.dtype) {
+            return true;
+        }
+    }
+    false
 }
 
 /// Whether one of the filter's literals is of an extension.

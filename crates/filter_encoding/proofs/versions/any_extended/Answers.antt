@@ -1,12 +1,13 @@
-use Rattle.std.proofs.Common.{◌≡◌, ◌∙◌, rules, sym}
-use Rattle.std.specs.List.{list_any}
+-- Those so far do not pass.
 use Rattle.vortex_cells.specs.Cells.{cell_of}
-use Rattle.vortex_dtype.specs.TypeOf.{type_of}
-use Rattle.filter_encoding.specs.Encoding.{is_extended, is_extension}
-use Rattle.filter_encoding.proofs.ValueLaws.{any_through}
+use Rattle.filter_encoding.specs.Encoding.{is_extended}
+use Rattle.filter_encoding.proofs.ValueLaws.{any-here, any-rest}
 use Rattle.filter_encoding.proofs.versions.any_extended.Goals as goal
 
-pub returns : goal.returns
-returns c =
-    let any : c.any.result ≡ list_any (λ x. is_extension (type_of x.dtype)) c.args.literals.now = search rules in
-    any ∙ sym (any_through cell_of is_extended c.args.literals.now)
+pub returns-then-is_extension : goal.returns-then-is_extension
+returns-then-is_extension c =
+    any-here cell_of is_extended c.loop-literal.literal-index c.args.literals.now c.literal-item.result _ _ c.loop-literal-test.true c.literal-item.is c.is_extension.ensures c.if-is_extension.true c.loop-literal.invariant
+
+pub loop-literal-preserved : goal.loop-literal-preserved
+loop-literal-preserved c =
+    any-rest cell_of is_extended c.loop-literal.literal-index c.args.literals.now c.literal-item.result _ _ c.loop-literal-test.true c.literal-item.is c.is_extension.ensures c.if-is_extension.false c.loop-literal.invariant
