@@ -72,7 +72,8 @@ from_day = record { types = dates ∷ []; filter = comparison 0 Gte day }
 date_bytes : type_bytes dates ≡ 32 ∷ 21 ∷ (codes "vortex.date" ++ 0 ∷ 22 ∷ 4 ∷ 0 ∷ 6 ∷ [])
 date_bytes = refl
 
-in_version_2 : encoding from_day ≡ 2 ∷ (count_bytes 1 ++ (type_bytes dates ++ 6 ∷ (count_bytes 0 ++ (type_bytes dates ++ 14 ∷ 80 ∷ 33 ∷ []))))
+in_version_2 : encoding from_day ≡
+    2 ∷ 0 ∷ 0 ∷ 0 ∷ 0 ∷ 0 ∷ 0 ∷ 0 ∷ 1 ∷ 32 ∷ 21 ∷ 118 ∷ 111 ∷ 114 ∷ 116 ∷ 101 ∷ 120 ∷ 46 ∷ 100 ∷ 97 ∷ 116 ∷ 101 ∷ 0 ∷ 22 ∷ 4 ∷ 0 ∷ 6 ∷ 6 ∷ 0 ∷ 0 ∷ 0 ∷ 0 ∷ 0 ∷ 0 ∷ 0 ∷ 0 ∷ 32 ∷ 21 ∷ 118 ∷ 111 ∷ 114 ∷ 116 ∷ 101 ∷ 120 ∷ 46 ∷ 100 ∷ 97 ∷ 116 ∷ 101 ∷ 0 ∷ 22 ∷ 4 ∷ 0 ∷ 6 ∷ 14 ∷ 80 ∷ 33 ∷ []
 in_version_2 = refl
 
 -- filters of before have the bytes of before
