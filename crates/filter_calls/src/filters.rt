@@ -2,7 +2,6 @@
 
 use crate::answers::FilterAnswer;
 use crate::filter_inputs::{FilterInputs, Input};
-use crate::prepared::{prepare, read_prepared};
 use case_lines::{Line, Named, put, take_scalar};
 use filter_pruning::{may_match, must_match, outcomes_of, simplify};
 use filter_sql::{Column, ParseError, Sql, parse_within};
@@ -37,8 +36,6 @@ const ON: [Named<On, Input>; 7] = [
 #[derive(Clone, Copy)]
 enum Call {
     Parse,
-    Prepare,
-    ReadPrepared,
     Simplify,
     Check,
     Coerce,
@@ -48,10 +45,8 @@ enum Call {
     Not,
 }
 
-const CALLS: [Named<Call, Input>; 10] = [
+const CALLS: [Named<Call, Input>; 8] = [
     ("parse", Call::Parse, &[Input::Text]),
-    ("prepare", Call::Prepare, &[Input::Text]),
-    ("read_prepared", Call::ReadPrepared, &[Input::Literal]),
     ("simplify", Call::Simplify, &[Input::OnZone]),
     ("check", Call::Check, &[Input::ForTypes]),
     ("coerce", Call::Coerce, &[Input::ForTypes]),
@@ -89,7 +84,7 @@ pub fn answer(line: &mut Line<'_>) {
 }
 
 /// An answer, or the refusal that all calls have.
-pub(crate) type FilterResult = Result<FilterAnswer, VortexError>;
+type FilterResult = Result<FilterAnswer, VortexError>;
 
 fn answer_on(alloc: Global, call: On, given: &FilterInputs) -> FilterResult {
     let filter = &given.filter;
@@ -130,8 +125,6 @@ fn answer_of(alloc: Global, call: Call, given: &FilterInputs) -> FilterResult {
     let filter = &given.filter;
     let made = match call {
         Call::Parse => return parse(alloc, given),
-        Call::Prepare => return prepare(alloc, given),
-        Call::ReadPrepared => return read_prepared(alloc, given),
         Call::Check => return fits(filter.check(&given.dtypes)),
         Call::Simplify => simplify(alloc, filter, &given.zones),
         Call::Coerce => filter.coerce(alloc, &given.dtypes),
@@ -169,7 +162,7 @@ fn refused(refusal: FilterError) -> FilterResult {
 }
 
 /// A filter as SQL text, with the names of its columns.
-pub(crate) fn sql_answer(alloc: Global, filter: &Filter, columns: &[Column]) -> FilterResult {
+fn sql_answer(alloc: Global, filter: &Filter, columns: &[Column]) -> FilterResult {
     match Sql::of(alloc, filter, columns) {
         Ok(sql) => shown_answer(alloc, &sql),
         Err(_) => Err(VortexError::OutOfMemory),

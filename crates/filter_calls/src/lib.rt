@@ -6,7 +6,6 @@
 mod answers;
 mod filter_inputs;
 mod filters;
-mod prepared;
 mod same;
 
 use case_lines::Line;

@@ -1,5 +1,4 @@
 pub mod EncodingLaws
-pub mod ExtensionLaws
 pub mod HeadLaws
 pub mod ListLaws
 pub mod LiteralLaws
@@ -9,5 +8,4 @@ pub mod ReadSteps
 pub mod ReadableLaws
 pub mod Stuck
 pub mod TypeLaws
-pub mod ValueLaws
 pub mod WriteSteps

@@ -5,7 +5,6 @@
 #![tactic(auto)]
 
 mod error;
-mod extensions;
 mod heads;
 pub mod laws;
 mod literals;
@@ -14,8 +13,6 @@ mod prepared;
 mod reader;
 mod reading;
 mod types;
-mod values;
-mod versions;
 mod writing;
 
 pub use error::FilterEncodingError;
