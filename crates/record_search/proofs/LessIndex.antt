@@ -56,7 +56,7 @@ less_encodings wanted k [] rows (p ∷ ps) h = absurd h
 less_encodings wanted k (c ∷ cs) rows [] h = absurd h
 less_encodings wanted k (c ∷ cs) rows (p ∷ ps) h = (one_of c (column k rows) p (is_wanted wanted k) h.0, less_encodings wanted (suc k) cs rows ps h.1)
 
-less_described : (wanted : List Bool) (m : ℕ) (cs : List ColumnType) (rows : List (List Cell)) (z : ZoneValue) (ps : List (List ℕ)) → ArePieces m z ps → AreDescribed cs rows z.statistics → AreDescribed cs rows (flat_map bytes_encoding (wanted_pieces wanted 0 ps))
+less_described : (wanted : List Bool) (m : ℕ) (cs : List ColumnType) (rows : List (List Cell)) (z : ZoneValue) (ps : List (List ℕ)) → ArePieces m z.statistics ps → AreDescribed cs rows z.statistics → AreDescribed cs rows (flat_map bytes_encoding (wanted_pieces wanted 0 ps))
 less_described wanted m cs rows z ps are h =
     let same : h.encodings ≡ ps = same_pieces h.encodings ps (encodings_fit 0 cs rows h.encodings h.each) are.fit (sym h.is ∙ are.is) in
     record { encodings = wanted_pieces wanted 0 ps; is = refl; each = less_encodings wanted 0 cs rows ps (subst (AreEncoded IsRightOf 0 cs rows) same h.each) }
@@ -70,7 +70,7 @@ pub record IsLess (wanted : List Bool) (m : ℕ) (x y : Zone) : Type 0 where
   pub records : x.records ≡ y.records
   pub rows : x.rows ≡ y.rows
   pub pieces : List (List ℕ)
-  pub are : ArePieces m (zone_value y) pieces
+  pub are : ArePieces m (zone_value y).statistics pieces
   pub statistics : x.statistics.items ≡ flat_map bytes_encoding (wanted_pieces wanted 0 pieces)
 
 abbrev AreLess : List Bool → ℕ → List Zone → List Zone → Type 0
@@ -79,7 +79,7 @@ AreLess wanted m [] (y ∷ ys) = ⊥
 AreLess wanted m (x ∷ xs) [] = ⊥
 AreLess wanted m (x ∷ xs) (y ∷ ys) = IsLess wanted m x y × AreLess wanted m xs ys
 
-first_less : (wanted : List Bool) (m : ℕ) (x y : Zone) (ps : List (List ℕ)) → ArePieces m (zone_value y) ps → zone_value x ≡ record (zone_value y) { statistics = flat_map bytes_encoding (wanted_pieces wanted 0 ps) } → IsLess wanted m x y
+first_less : (wanted : List Bool) (m : ℕ) (x y : Zone) (ps : List (List ℕ)) → ArePieces m (zone_value y).statistics ps → zone_value x ≡ record (zone_value y) { statistics = flat_map bytes_encoding (wanted_pieces wanted 0 ps) } → IsLess wanted m x y
 first_less wanted m x y ps are e = record {
   first = ap (λ (v : ZoneValue). v.first) e;
   long = ap (λ (v : ZoneValue). v.length) e;

@@ -6,6 +6,8 @@ pub mod FieldLaws
 pub mod Filling
 pub mod Finding
 pub mod EncodingLaws
+pub mod Out
+pub mod PieceSteps
 pub mod ReadSteps
 pub mod Refusing
 pub mod Rests

@@ -7,9 +7,9 @@ use Rattle.std.specs.Io.KnownBytes.{Appends, Keeps}
 use Rattle.std.specs.List.{count_by}
 use Rattle.std.specs.Prelude.{if◌then◌else◌}
 use Rattle.csv_records.specs.Records.{records_of}
-use Rattle.zone_index.specs.Sinks.{told, written_of}
+use Rattle.zone_index.specs.Sinks.{WritesFirst, told, written_of}
 use Rattle.zone_index.specs.Taking.{IsTaken}
-use Rattle.zone_index.proofs.Sinking.{written-append, written_told}
+use Rattle.zone_index.proofs.Sinking.{first_given, first_of_more, first_then, written-append, written_told}
 
 -- of these records so many match, and those are written; the others are left, of which the first has this number
 pub record Searched (f : ℕ → List ℕ → List ℕ) (first d : ℕ) (keep : List ℕ → Bool) (bytes : List ℕ) (left : Option (List ℕ)) (old new : Option (List ℕ)) (found number : ℕ) : Type 0 where
@@ -51,6 +51,10 @@ searched_more f first d e keep bytes text view output left next old mid same new
 all_done : (f : ℕ → List ℕ → List ℕ) (first d : ℕ) (keep : List ℕ → Bool) (bytes : List ℕ) (left old new : Option (List ℕ)) (found number : ℕ) (s : Searched f first d keep bytes left old new found number) → s.rest ≡ [] → s.done ≡ records_of d bytes
 all_done f first d keep bytes left old new found number s none = sym (append-nil s.done) ∙ ap (λ (l : List ℕ). s.done ++ records_of d l) (sym none) ∙ sym s.records
 
+pub keeps-same : (a b : Option (List ℕ)) → b ≡ a → Keeps a b
+keeps-same None b e = tt
+keeps-same (Some x) b e = subst (λ (o : Option (List ℕ)). Keeps (Some x) o) (sym e) refl
+
 -- and after a flush
 pub appends-kept : (a b c : Option (List ℕ)) (bs : List ℕ) → Appends a b bs → Keeps b c → Appends a c bs
 appends-kept None b c bs p q = tt
@@ -65,6 +69,30 @@ all_written f first d keep bytes left old new out found number s none same =
 
 pub all_counted : (f : ℕ → List ℕ → List ℕ) (first d : ℕ) (keep : List ℕ → Bool) (bytes : List ℕ) (left old new : Option (List ℕ)) (found number : ℕ) (s : Searched f first d keep bytes left old new found number) → s.rest ≡ [] → found ≡ count_by keep (records_of d bytes)
 all_counted f first d keep bytes left old new found number s none = s.count ∙ ap (count_by keep) (all_done f first d keep bytes left old new found number s none)
+
+-- what is written of all begins with what was of those that were taken
+written_parts : (f : ℕ → List ℕ → List ℕ) (first d : ℕ) (keep : List ℕ → Bool) (bytes : List ℕ) (left old new : Option (List ℕ)) (found number : ℕ) (s : Searched f first d keep bytes left old new found number)
+    → written_of f keep first (records_of d bytes) ≡ written_of f keep first s.done ++ written_of f keep number (records_of d s.rest)
+written_parts f first d keep bytes left old new found number s =
+    ap (written_of f keep first) s.records ∙ written-append f keep first s.done (records_of d s.rest) ∙ ap (λ (l : List ℕ). written_of f keep first s.done ++ l) (written_told f keep (first + length s.done) number (records_of d s.rest) (sym s.next))
+
+-- nothing more was written, or nothing that is known
+pub searched_first : (f : ℕ → List ℕ → List ℕ) (first d : ℕ) (keep : List ℕ → Bool) (bytes : List ℕ) (left old new now : Option (List ℕ)) (found number : ℕ) → Searched f first d keep bytes left old new found number → Keeps new now → WritesFirst old now (written_of f keep first (records_of d bytes))
+searched_first f first d keep bytes left old new now found number s same =
+    (written_of f keep first s.done, written_of f keep number (records_of d s.rest), written_parts f first d keep bytes left old new found number s, appends-kept old new now (written_of f keep first s.done) s.written same)
+
+-- a beginning of a piece more
+pub searched_then : (f : ℕ → List ℕ → List ℕ) (first d e : ℕ) (keep : List ℕ → Bool) (bytes text view output : List ℕ) (left next old mid same new : Option (List ℕ)) (found number : ℕ) (s : Searched f first d keep bytes left old mid found number) → e ≡ d → IsTaken e s.rest text next → view ≡ text
+    → output ≡ written_of f keep number (records_of d view) → same ≡ mid → WritesFirst same new output → WritesFirst old new (written_of f keep first (records_of d bytes))
+searched_then f first d e keep bytes text view output left next old mid same new found number s by t viewed output_is unwritten h =
+    let taken : IsTaken d s.rest text next = subst (λ (n : ℕ). IsTaken n s.rest text next) by t in
+    let front = written_of f keep first s.done in
+    let here = written_of f keep number (records_of d text) in
+    let back = written_of f keep (number + length (records_of d text)) (records_of d taken.rest) in
+    let piece : output ≡ here = output_is ∙ ap (λ (l : List ℕ). written_of f keep number (records_of d l)) viewed in
+    let rest_is : written_of f keep number (records_of d s.rest) ≡ here ++ back = ap (written_of f keep number) taken.records ∙ written-append f keep number (records_of d text) (records_of d taken.rest) in
+    let begun : WritesFirst mid new (here ++ back) = first_of_more mid new here back (first_given mid same new output here piece unwritten h) in
+    subst (WritesFirst old new) (sym (written_parts f first d keep bytes left old mid found number s ∙ ap (λ (l : List ℕ). front ++ l) rest_is)) (first_then old mid new front (here ++ back) s.written begun)
 
 -- those of the first records that match were written
 pub first_written : (f : ℕ → List ℕ → List ℕ) (first d : ℕ) (keep : List ℕ → Bool) (bytes : List ℕ) (left old new now : Option (List ℕ)) (found number : ℕ) → Searched f first d keep bytes left old new found number → now ≡ new → (begin others : List (List ℕ)) × (records_of d bytes ≡ begin ++ others) × Appends old now (written_of f keep first begin)

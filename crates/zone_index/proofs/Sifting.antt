@@ -1,5 +1,5 @@
 -- The first record that is refused.
-use Rattle.std.proofs.Common.{◌≡◌, ◌≤◌, ◌<◌, ◌+◌, ◌-◌, ◌^◌, min, arith, ℕ, suc, List, [], ◌∷◌, ◌++◌, Bool, true, false, if◌then◌else◌, Option, None, Some, refl, sym, ap, ◌∙◌, subst, length, take, drop, get_or, take_all, drop-cons}
+use Rattle.std.proofs.Common.{◌≡◌, ◌≢◌, ◌≤◌, ◌<◌, ◌+◌, ◌-◌, ◌^◌, min, arith, ℕ, suc, List, [], ◌∷◌, ◌++◌, Bool, true, false, if◌then◌else◌, Option, None, Some, refl, sym, ap, ◌∙◌, subst, length, take, drop, get_or, take_all, drop-cons, append_assoc}
 use Rattle.std.specs.Prelude.{option_map}
 use Rattle.std.proofs.lemmas.Grind.{take_at_read}
 use Rattle.std.proofs.lemmas.List.{length-append, take-append-drop}
@@ -7,7 +7,7 @@ use Rattle.std.specs.List.{All, concat}
 use Rattle.csv_records.specs.Lemmas.RecordLaws.{concat-records_of}
 use Rattle.csv_records.specs.Records.{records_of}
 use Rattle.zone_index.specs.Errors.{IfRecordRefused, IfRefused, TellsOffset, TellsRecord, before_refused, fault_at}
-use Rattle.zone_index.specs.Taking.{IsTaken}
+use Rattle.zone_index.specs.Taking.{IsTaken, StandsBehind}
 use Rattle.zone_index.specs.Zones.{IsHeld, IsIndexOf, IsZoneOf, offset_or, refused_in, zone_bytes, zone_records}
 use Rattle.zone_index.specs.declared.errors.Cause.{Cause}
 use Rattle.zone_index.specs.declared.errors.SearchError.{SearchError}
@@ -157,6 +157,61 @@ first_in_piece R d e text view all left next start passed at errors.CutShort bef
 first_in_piece R d e text view all left next start passed at errors.TooFar before place by taken viewed h = tt
 first_in_piece R d e text view all left next start passed at errors.Write before place by taken viewed h = tt
 first_in_piece R d e text view all left next start passed at errors.Memory before place by taken viewed h = tt
+
+-- no record is refused of those before what is left of a stream
+pub record IsJudged (R : List ℕ → Bool) (d : ℕ) (bytes : List ℕ) (left : Option (List ℕ)) : Type 0 where
+  pub done : List (List ℕ)
+  pub rest : List ℕ
+  pub is : left ≡ Some rest
+  pub records : records_of d bytes ≡ done ++ records_of d rest
+  pub passed : before_refused R done ≡ None
+
+pub judged_none : (R : List ℕ → Bool) (d : ℕ) (bytes : List ℕ) (left : Option (List ℕ)) → left ≡ Some bytes → IsJudged R d bytes left
+judged_none R d bytes left is = record { done = []; rest = bytes; is = is; records = refl; passed = refl }
+
+neither : (R : List ℕ → Bool) (xs ys : List (List ℕ)) → before_refused R xs ≡ None → before_refused R ys ≡ None → before_refused R (xs ++ ys) ≡ None
+neither R xs ys none others =
+    refused-append R xs ys ∙ ap (λ (o : Option ℕ). or_later o (length (concat xs)) (before_refused R ys)) none ∙ ap (later (length (concat xs))) others
+
+pub judged_more : (R : List ℕ → Bool) (d e : ℕ) (bytes text view : List ℕ) (left next : Option (List ℕ)) (s : IsJudged R d bytes left) → e ≡ d → IsTaken e s.rest text next → view ≡ text → before_refused R (records_of d view) ≡ None → IsJudged R d bytes next
+judged_more R d e bytes text view left next s by t viewed none =
+    let taken : IsTaken d s.rest text next = subst (λ (n : ℕ). IsTaken n s.rest text next) by t in
+    record {
+      done = s.done ++ records_of d text;
+      rest = taken.rest;
+      is = taken.is;
+      records = s.records ∙ ap (λ (l : List (List ℕ)). s.done ++ l) taken.records ∙ sym (append_assoc s.done (records_of d text) (records_of d taken.rest));
+      passed = neither R s.done (records_of d text) s.passed (ap (λ (l : List ℕ). before_refused R (records_of d l)) (sym viewed) ∙ none);
+    }
+
+told_some : (at : ℕ) (o : Option ℕ) (r : Refusal) → TellsOffset at o r → o ≢ None
+told_some at None r h = absurd h
+told_some at (Some n) r h = λ e. cc
+
+-- a piece of so many records at most, of which one is refused
+pub stands_behind : (R : List ℕ → Bool) (d e size : ℕ) (text view : List ℕ) (all left next : Option (List ℕ)) (at : ℕ) (f : SearchError) → ((bytes : List ℕ) → all ≡ Some bytes → IsJudged R d bytes left) → e ≡ d → ((bytes : List ℕ) → left ≡ Some bytes → IsTaken e bytes text next)
+    → ((bytes : List ℕ) → left ≡ Some bytes → length (records_of e text) ≡ min size (length (records_of e bytes))) → view ≡ text → IfRefused (TellsOffset at (before_refused R (records_of d view))) f
+    → IfRefused (λ r. (bytes : List ℕ) → all ≡ Some bytes → StandsBehind d size R bytes next) f
+stands_behind R d e size text view all left next at (errors.Refused r) before by taken many viewed h = λ bytes is.
+    let s : IsJudged R d bytes left = before bytes is in
+    let t : IsTaken d s.rest text next = subst (λ (n : ℕ). IsTaken n s.rest text next) by (taken s.rest s.is) in
+    let long : length (records_of d text) ≡ min size (length (records_of d s.rest)) = subst (λ (n : ℕ). length (records_of n text) ≡ min size (length (records_of n s.rest))) by (many s.rest s.is) in
+    let here : TellsOffset at (before_refused R (records_of d text)) r = subst (λ (l : List ℕ). TellsOffset at (before_refused R (records_of d l)) r) viewed h in
+    record {
+      before = s.done;
+      block = records_of d text;
+      rest = t.rest;
+      is = t.is;
+      records = s.records ∙ ap (λ (l : List (List ℕ)). s.done ++ l) t.records;
+      few = omega (arith, long);
+      passed = s.passed;
+      refused = told_some at (before_refused R (records_of d text)) r here;
+    }
+stands_behind R d e size text view all left next at errors.Read before by taken many viewed h = tt
+stands_behind R d e size text view all left next at errors.CutShort before by taken many viewed h = tt
+stands_behind R d e size text view all left next at errors.TooFar before by taken many viewed h = tt
+stands_behind R d e size text view all left next at errors.Write before by taken many viewed h = tt
+stands_behind R d e size text view all left next at errors.Memory before by taken many viewed h = tt
 
 -- nothing is left behind a piece without bytes
 pub at_end : (e : ℕ) (bytes text : List ℕ) (next : Option (List ℕ)) → IsTaken e bytes text next → bytes ≡ [] → next ≡ Some []

@@ -2,14 +2,14 @@
 use Rattle.std.proofs.Common.{◌≡◌, ◌<◌, ◌≤◌, ◌+◌, ◌-◌, ◌^◌, min, arith, ℕ, suc, List, [], ◌∷◌, ◌++◌, Bool, true, false, not, Option, refl, sym, ap, ap₂, ◌∙◌, subst, length, take, drop, get_or, append-nil, append_assoc, add-zero, take_all, if◌then◌else◌}
 use Rattle.std.proofs.KnownBytes.{Appends-nil, Appends-trans}
 use Rattle.std.proofs.lemmas.Grind.{flat_map-append, take_at_read}
-use Rattle.std.proofs.lemmas.List.{length-append}
+use Rattle.std.proofs.lemmas.List.{length-append, take-append-drop}
 use Rattle.std.proofs.lemmas.List.Elements.{All-take}
 use Rattle.std.proofs.lemmas.List.Sums.{sum_by-cons, sum_by_more}
 use Rattle.std.specs.Io.KnownBytes.{Appends}
 use Rattle.std.specs.List.{All, AllPass, concat, filter, flat_map, sum_by}
 use Rattle.csv_records.specs.Lemmas.RecordLaws.{concat-records_of}
 use Rattle.csv_records.specs.Records.{records_of}
-use Rattle.zone_index.specs.Sinks.{IsPlain, plain_record, told, written_in, written_of}
+use Rattle.zone_index.specs.Sinks.{IsPlain, WritesFirst, plain_record, told, written_in, written_of}
 use Rattle.zone_index.specs.Zones.{IsIndexOf, IsZoneOf, found_in, zone_bytes, zone_records}
 use Rattle.zone_index.specs.declared.zones.Zone.{Zone}
 use Rattle.zone_index.proofs.Finding.{kept_of_zones}
@@ -69,6 +69,27 @@ written_none f keep n (x ∷ xs) h =
     let no : keep x ≡ false = not_true (keep x) (h 0 x (omega arith)) in
     rw no (written_none f keep (n + 1) xs (λ k d below. h (suc k) d (omega arith)))
 
+-- ---- a beginning of what is right
+
+pub first_none : (a : Option (List ℕ)) (bytes : List ℕ) → WritesFirst a a bytes
+first_none a bytes = ([], bytes, refl, Appends-nil a)
+
+pub first_kept : (a b : Option (List ℕ)) (bytes : List ℕ) → b ≡ a → WritesFirst a b bytes
+first_kept a b bytes same = subst (λ (o : Option (List ℕ)). WritesFirst a o bytes) (sym same) (first_none a bytes)
+
+-- all of what is in front, and a beginning of what follows
+pub first_then : (a b c : Option (List ℕ)) (front back : List ℕ) → Appends a b front → WritesFirst b c back → WritesFirst a c (front ++ back)
+first_then a b c front back done next =
+    (front ++ next.0, next.1, ap (λ (l : List ℕ). front ++ l) next.2 ∙ sym (append_assoc front next.0 next.1), Appends-trans a b c front next.0 done next.3)
+
+-- and more behind it
+pub first_of_more : (a b : Option (List ℕ)) (front back : List ℕ) → WritesFirst a b front → WritesFirst a b (front ++ back)
+first_of_more a b front back h = (h.0, h.1 ++ back, ap (λ (l : List ℕ). l ++ back) h.2 ∙ append_assoc h.0 h.1 back, h.3)
+
+-- the same, of what a sink was given
+pub first_given : (a b c : Option (List ℕ)) (taken right : List ℕ) → taken ≡ right → b ≡ a → WritesFirst b c taken → WritesFirst a c right
+first_given a b c taken right is same h = subst (WritesFirst a c) is (subst (λ (o : Option (List ℕ)). WritesFirst o c taken) same h)
+
 -- ---- records as they stand
 
 plain_more : (f : ℕ → List ℕ → List ℕ) (keep : List ℕ → Bool) (n : ℕ) (x : List ℕ) (xs : List (List ℕ)) (t : Bool) → IsPlain f → keep x ≡ t → written_of f keep (n + 1) xs ≡ concat (filter keep xs) → written_of f keep n (x ∷ xs) ≡ concat (filter keep (x ∷ xs))
@@ -111,17 +132,44 @@ records_long d has_row Describes was (z ∷ zones) right =
     let own = (right 0 z (omega arith)).records in
     omega (arith, own, others, length-append (zone_records d was z) (flat_map (zone_records d was) zones), sum_by-cons (λ (y : Zone). y.records) z zones)
 
--- one zone more
-pub written_more : (a b c : Option (List ℕ)) (f : ℕ → List ℕ → List ℕ) (keep : List ℕ → Bool) (d : ℕ) (has_row : List ℕ → Bool) (Describes : List ℕ → List (List ℕ) → Type 0) (was : List ℕ) (zones : List Zone) (i : ℕ) (z : Zone) (first number : ℕ) → i < length zones → z ≡ get_or zones i z → All (IsZoneOf d has_row Describes was) zones → told number ≡ told (first + records_in (take i zones))
-    → Appends a b (written_in f keep first d was (take i zones)) → Appends b c (written_of f keep number (zone_records d was z)) → Appends a c (written_in f keep first d was (take (i + 1) zones))
-written_more a b c f keep d has_row Describes was zones i z first number inside is right number_is before here =
+-- what is written of one zone more
+written_next : (f : ℕ → List ℕ → List ℕ) (keep : List ℕ → Bool) (d : ℕ) (has_row : List ℕ → Bool) (Describes : List ℕ → List (List ℕ) → Type 0) (was : List ℕ) (zones : List Zone) (i : ℕ) (z : Zone) (first number : ℕ) → i < length zones → z ≡ get_or zones i z → All (IsZoneOf d has_row Describes was) zones → told number ≡ told (first + records_in (take i zones))
+    → written_in f keep first d was (take (i + 1) zones) ≡ written_in f keep first d was (take i zones) ++ written_of f keep number (zone_records d was z)
+written_next f keep d has_row Describes was zones i z first number inside is right number_is =
     let g : Zone → List (List ℕ) = zone_records d was in
     let lines : List (List ℕ) = flat_map g (take i zones) in
     let long : length lines ≡ records_in (take i zones) = records_long d has_row Describes was (take i zones) (All-take (IsZoneOf d has_row Describes was) i zones right) in
     let same : told (first + length lines) ≡ told number = ap (λ (n : ℕ). told (first + n)) long ∙ sym number_is in
     let whole : flat_map g (take (i + 1) zones) ≡ lines ++ g z = ap (flat_map g) (take_at_read zones i z inside).1 ∙ flat_map-append g (take i zones) (get_or zones i z ∷ []) ∙ ap (λ (l : List (List ℕ)). lines ++ l) (append-nil (g (get_or zones i z))) ∙ ap (λ (y : Zone). lines ++ g y) (sym is) in
-    let all : written_in f keep first d was (take (i + 1) zones) ≡ written_of f keep first lines ++ written_of f keep number (g z) = ap (written_of f keep first) whole ∙ written-append f keep first lines (g z) ∙ ap (λ (l : List ℕ). written_of f keep first lines ++ l) (written_told f keep (first + length lines) number (g z) same) in
-    subst (Appends a c) (sym all) (Appends-trans a b c (written_of f keep first lines) (written_of f keep number (g z)) before here)
+    ap (written_of f keep first) whole ∙ written-append f keep first lines (g z) ∙ ap (λ (l : List ℕ). written_of f keep first lines ++ l) (written_told f keep (first + length lines) number (g z) same)
+
+-- one zone more
+pub written_more : (a b c : Option (List ℕ)) (f : ℕ → List ℕ → List ℕ) (keep : List ℕ → Bool) (d : ℕ) (has_row : List ℕ → Bool) (Describes : List ℕ → List (List ℕ) → Type 0) (was : List ℕ) (zones : List Zone) (i : ℕ) (z : Zone) (first number : ℕ) → i < length zones → z ≡ get_or zones i z → All (IsZoneOf d has_row Describes was) zones → told number ≡ told (first + records_in (take i zones))
+    → Appends a b (written_in f keep first d was (take i zones)) → Appends b c (written_of f keep number (zone_records d was z)) → Appends a c (written_in f keep first d was (take (i + 1) zones))
+written_more a b c f keep d has_row Describes was zones i z first number inside is right number_is before here =
+    subst (Appends a c) (sym (written_next f keep d has_row Describes was zones i z first number inside is right number_is)) (Appends-trans a b c (written_in f keep first d was (take i zones)) (written_of f keep number (zone_records d was z)) before here)
+
+-- what is written of the zones begins with what is of the first ones
+written_front : (f : ℕ → List ℕ → List ℕ) (keep : List ℕ → Bool) (first d : ℕ) (was : List ℕ) (zones : List Zone) (n : ℕ) → (back : List ℕ) × (written_in f keep first d was zones ≡ written_in f keep first d was (take n zones) ++ back)
+written_front f keep first d was zones n =
+    let g : Zone → List (List ℕ) = zone_records d was in
+    let front : List (List ℕ) = flat_map g (take n zones) in
+    let back : List (List ℕ) = flat_map g (drop n zones) in
+    let parts : flat_map g zones ≡ front ++ back = ap (flat_map g) (sym (take-append-drop n zones)) ∙ flat_map-append g (take n zones) (drop n zones) in
+    (written_of f keep (first + length front) back, ap (written_of f keep first) parts ∙ written-append f keep first front back)
+
+-- a beginning of one zone more is one of all
+pub first_in_zone : (a b c : Option (List ℕ)) (f : ℕ → List ℕ → List ℕ) (keep : List ℕ → Bool) (d : ℕ) (has_row : List ℕ → Bool) (Describes : List ℕ → List (List ℕ) → Type 0) (was : List ℕ) (zones : List Zone) (i : ℕ) (z : Zone) (first number : ℕ) → i < length zones → z ≡ get_or zones i z → All (IsZoneOf d has_row Describes was) zones → told number ≡ told (first + records_in (take i zones))
+    → Appends a b (written_in f keep first d was (take i zones)) → WritesFirst b c (written_of f keep number (zone_records d was z)) → WritesFirst a c (written_in f keep first d was zones)
+first_in_zone a b c f keep d has_row Describes was zones i z first number inside is right number_is before here =
+    let next : WritesFirst a c (written_in f keep first d was (take (i + 1) zones)) =
+    subst (WritesFirst a c) (sym (written_next f keep d has_row Describes was zones i z first number inside is right number_is)) (first_then a b c (written_in f keep first d was (take i zones)) (written_of f keep number (zone_records d was z)) before here) in
+    let parts = written_front f keep first d was zones (i + 1) in
+    subst (WritesFirst a c) (sym parts.1) (first_of_more a c (written_in f keep first d was (take (i + 1) zones)) parts.0 next)
+
+-- all of it is one
+pub first_of_all : (a b : Option (List ℕ)) (bytes : List ℕ) → Appends a b bytes → WritesFirst a b bytes
+first_of_all a b bytes h = (bytes, [], sym (append-nil bytes), h)
 
 -- after the last zone
 pub written_whole : (a b : Option (List ℕ)) (f : ℕ → List ℕ → List ℕ) (keep : List ℕ → Bool) (d : ℕ) (has_row : List ℕ → Bool) (Describes : List ℕ → List (List ℕ) → Type 0) (start first : ℕ) (zones : List Zone) (was : List ℕ) (i : ℕ) → length zones ≤ i → IsIndexOf d has_row Describes start zones was
@@ -134,12 +182,23 @@ written_whole a b f keep d has_row Describes start first zones was i ended index
 pub zone_skipped : (a : Option (List ℕ)) (f : ℕ → List ℕ → List ℕ) (keep : List ℕ → Bool) (d n : ℕ) (was : List ℕ) (z : Zone) → AllPass (λ x. not (keep x)) (zone_records d was z) → Appends a a (written_of f keep n (zone_records d was z))
 zone_skipped a f keep d n was z none = subst (Appends a a) (sym (written_none f keep n (zone_records d was z) none)) (Appends-nil a)
 
+taken_copied : (f : ℕ → List ℕ → List ℕ) (keep : List ℕ → Bool) (d e n : ℕ) (was text taken : List ℕ) (z : Zone) → AllPass keep (zone_records d was z) → e ≡ d → text ≡ zone_bytes was z → taken ≡ written_of f (λ _. true) n (records_of e text) → taken ≡ written_of f keep n (zone_records d was z)
+taken_copied f keep d e n was text taken z all by is taken_is =
+    taken_is ∙ ap₂ (λ (k : ℕ) (l : List ℕ). written_of f (λ _. true) n (records_of k l)) by is ∙ written_all f keep n (zone_records d was z) all
+
+taken_searched : (f : ℕ → List ℕ → List ℕ) (keep : List ℕ → Bool) (d n : ℕ) (was text view taken : List ℕ) (z : Zone) → view ≡ text → text ≡ zone_bytes was z → taken ≡ written_of f keep n (records_of d view) → taken ≡ written_of f keep n (zone_records d was z)
+taken_searched f keep d n was text view taken z viewed is taken_is = taken_is ∙ ap (λ (l : List ℕ). written_of f keep n (records_of d l)) (viewed ∙ is)
+
 pub zone_copied : (a b c : Option (List ℕ)) (f : ℕ → List ℕ → List ℕ) (keep : List ℕ → Bool) (d e n : ℕ) (was text taken : List ℕ) (z : Zone) → AllPass keep (zone_records d was z) → e ≡ d → text ≡ zone_bytes was z → taken ≡ written_of f (λ _. true) n (records_of e text) → b ≡ a → Appends b c taken → Appends a c (written_of f keep n (zone_records d was z))
 zone_copied a b c f keep d e n was text taken z all by is taken_is same h =
-    let own : taken ≡ written_of f keep n (zone_records d was z) = taken_is ∙ ap₂ (λ (k : ℕ) (l : List ℕ). written_of f (λ _. true) n (records_of k l)) by is ∙ written_all f keep n (zone_records d was z) all in
-    subst (λ (o : Option (List ℕ)). Appends o c (written_of f keep n (zone_records d was z))) same (subst (Appends b c) own h)
+    subst (λ (o : Option (List ℕ)). Appends o c (written_of f keep n (zone_records d was z))) same (subst (Appends b c) (taken_copied f keep d e n was text taken z all by is taken_is) h)
+
+pub first_copied : (a b c : Option (List ℕ)) (f : ℕ → List ℕ → List ℕ) (keep : List ℕ → Bool) (d e n : ℕ) (was text taken : List ℕ) (z : Zone) → AllPass keep (zone_records d was z) → e ≡ d → text ≡ zone_bytes was z → taken ≡ written_of f (λ _. true) n (records_of e text) → b ≡ a → WritesFirst b c taken → WritesFirst a c (written_of f keep n (zone_records d was z))
+first_copied a b c f keep d e n was text taken z all by is taken_is same h = first_given a b c taken (written_of f keep n (zone_records d was z)) (taken_copied f keep d e n was text taken z all by is taken_is) same h
 
 pub zone_searched : (a b c : Option (List ℕ)) (f : ℕ → List ℕ → List ℕ) (keep : List ℕ → Bool) (d n : ℕ) (was text view taken : List ℕ) (z : Zone) → view ≡ text → text ≡ zone_bytes was z → taken ≡ written_of f keep n (records_of d view) → b ≡ a → Appends b c taken → Appends a c (written_of f keep n (zone_records d was z))
 zone_searched a b c f keep d n was text view taken z viewed is taken_is same h =
-    let own : taken ≡ written_of f keep n (zone_records d was z) = taken_is ∙ ap (λ (l : List ℕ). written_of f keep n (records_of d l)) (viewed ∙ is) in
-    subst (λ (o : Option (List ℕ)). Appends o c (written_of f keep n (zone_records d was z))) same (subst (Appends b c) own h)
+    subst (λ (o : Option (List ℕ)). Appends o c (written_of f keep n (zone_records d was z))) same (subst (Appends b c) (taken_searched f keep d n was text view taken z viewed is taken_is) h)
+
+pub first_searched : (a b c : Option (List ℕ)) (f : ℕ → List ℕ → List ℕ) (keep : List ℕ → Bool) (d n : ℕ) (was text view taken : List ℕ) (z : Zone) → view ≡ text → text ≡ zone_bytes was z → taken ≡ written_of f keep n (records_of d view) → b ≡ a → WritesFirst b c taken → WritesFirst a c (written_of f keep n (zone_records d was z))
+first_searched a b c f keep d n was text view taken z viewed is taken_is same h = first_given a b c taken (written_of f keep n (zone_records d was z)) (taken_searched f keep d n was text view taken z viewed is taken_is) same h

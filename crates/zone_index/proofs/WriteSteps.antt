@@ -53,7 +53,7 @@ pub no_blocks : (n : ℕ) → [] ∷ blocks_of n [] ≡ blocks_of n [] ++ [] ∷
 no_blocks zero = refl
 no_blocks (suc n) = ap (λ (l : List (List ℕ)). [] ∷ l) (no_blocks n)
 
-have_more : (n : ℕ) (zs : List ZoneValue) (pieces : List (List (List ℕ))) (z : ZoneValue) (ps : List (List ℕ)) → HavePieces n zs pieces → ArePieces n z ps → HavePieces n (zs ++ z ∷ []) (pieces ++ ps ∷ [])
+have_more : (n : ℕ) (zs : List ZoneValue) (pieces : List (List (List ℕ))) (z : ZoneValue) (ps : List (List ℕ)) → HavePieces n zs pieces → ArePieces n z.statistics ps → HavePieces n (zs ++ z ∷ []) (pieces ++ ps ∷ [])
 have_more n [] [] z ps have one = (one, tt)
 have_more n [] (qs ∷ pieces) z ps have one = absurd have
 have_more n (y ∷ zs) [] z ps have one = absurd have
@@ -85,7 +85,7 @@ blocks_with n old new z blocks dealt_to more before one =
       are = one.given ∙ ap (dealt append one.pieces) before.are ∙ sym (blocks_more n before.pieces one.pieces count);
     })
 
-have_at : (n : ℕ) (zs : List ZoneValue) (pieces : List (List (List ℕ))) (i : ℕ) (d : ZoneValue) → HavePieces n zs pieces → i < length zs → (ps : List (List ℕ)) × ArePieces n (get_or zs i d) ps
+have_at : (n : ℕ) (zs : List ZoneValue) (pieces : List (List (List ℕ))) (i : ℕ) (d : ZoneValue) → HavePieces n zs pieces → i < length zs → (ps : List (List ℕ)) × ArePieces n (get_or zs i d).statistics ps
 have_at n [] [] i d have inside = absurd (omega (arith, inside))
 have_at n [] (qs ∷ pieces) i d have inside = absurd have
 have_at n (y ∷ zs) [] i d have inside = absurd have
@@ -97,14 +97,24 @@ get_map view [] i d inside = absurd (omega arith)
 get_map view (x ∷ xs) zero d inside = refl
 get_map view (x ∷ xs) (suc i) d inside = get_map view xs i d (omega arith)
 
+-- where each zone has pieces, this one has
+pub zone_pieces : {A : Type 0} (view : A → ZoneValue) (n : ℕ) (zones : List A) (i : ℕ) (z : A) → i < length zones → z ≡ get_or zones i z → (pieces : List (List (List ℕ))) → HavePieces n (map view zones) pieces → (ps : List (List ℕ)) × ArePieces n (view z).statistics ps
+zone_pieces {A} view n zones i z inside is pieces have =
+    let one = have_at n (map view zones) pieces i (view z) have (omega (arith, length-map zones view)) in
+    let here : get_or (map view zones) i (view z) ≡ view z = get_map view zones i z inside ∙ ap view (sym is) in
+    (one.0, subst (λ (y : ZoneValue). ArePieces n y.statistics one.0) here one.1)
+
+-- the pieces of one zone more
+pub pieces_with : (n : ℕ) (old new : List ZoneValue) (z : ZoneValue) → new ≡ old ++ z ∷ [] → (pieces : List (List (List ℕ))) × HavePieces n old pieces → (ps : List (List ℕ)) × ArePieces n z.statistics ps → (pieces : List (List (List ℕ))) × HavePieces n new pieces
+pieces_with n old new z more before one =
+    subst (λ (zs : List ZoneValue). (pieces : List (List (List ℕ))) × HavePieces n zs pieces) (sym more) (before.0 ++ one.0 ∷ [], have_more n old before.0 z one.0 before.1 one.1)
+
 -- the statistics of a zone are no such pieces
 pub no_pieces : {A : Type 0} (view : A → ZoneValue) (n : ℕ) (old : List ZoneValue) (zones : List A) (i : ℕ) (z : A) (blocks : List (List ℕ)) (f : EncodingError) → AreBlocks n old blocks → i < length zones → z ≡ get_or zones i z → dealt_at append blocks (view z).statistics ≡ Err f
     → (pieces : List (List (List ℕ))) → ¬ (HavePieces n (map view zones) pieces)
 no_pieces {A} view n old zones i z blocks f before inside is fails pieces have =
-    let inside' : i < length (map view zones) = omega (arith, length-map zones view) in
-    let one = have_at n (map view zones) pieces i (view z) have inside' in
-    let here : get_or (map view zones) i (view z) ≡ view z = get_map view zones i z inside ∙ ap view (sym is) in
-    let are : ArePieces n (view z) one.0 = subst (λ (y : ZoneValue). ArePieces n y one.0) here one.1 in
+    let one = zone_pieces view n zones i z inside is pieces have in
+    let are : ArePieces n (view z).statistics one.0 = one.1 in
     let count : length one.0 ≡ length blocks = are.count ∙ sym (ap length before.are ∙ columns_long n before.pieces) in
     let read : dealt_at append blocks (view z).statistics ≡ Ok (dealt append one.0 blocks) = ap (dealt_at append blocks) are.is ∙ dealt_again append blocks one.0 count are.fit in
     absurd (not_both (dealt_at append blocks (view z).statistics) f (dealt append one.0 blocks) fails read)

@@ -101,17 +101,18 @@ without_statistics z = record z { statistics = [] }
 abbrev pub root_of : IndexValue → List (List ℕ) → RootValue
 root_of x blocks = record { index = record x { zones = map without_statistics x.zones }; blocks = map block_of blocks }
 
--- the statistics of each zone are so many pieces, each after its length
-pub record ArePieces (n : ℕ) (z : ZoneValue) (pieces : List (List ℕ)) : Type 0 where
-  pub is : z.statistics ≡ flat_map bytes_encoding pieces
+-- the bytes are so many pieces, each after its length
+pub record ArePieces (n : ℕ) (bytes : List ℕ) (pieces : List (List ℕ)) : Type 0 where
+  pub is : bytes ≡ flat_map bytes_encoding pieces
   pub count : length pieces ≡ n
   pub fit : AllByRecursion (λ p. length p < 2 ^ 64) pieces
 
+-- the statistics of each zone are
 abbrev pub HavePieces : ℕ → List ZoneValue → List (List (List ℕ)) → Type 0
 HavePieces n [] [] = Unit {0}
 HavePieces n [] (ps ∷ pieces) = ⊥
 HavePieces n (z ∷ zs) [] = ⊥
-HavePieces n (z ∷ zs) (ps ∷ pieces) = ArePieces n z ps × HavePieces n zs pieces
+HavePieces n (z ∷ zs) (ps ∷ pieces) = ArePieces n z.statistics ps × HavePieces n zs pieces
 
 -- the root, and the blocks one after another
 abbrev pub index_encoding : ℕ → IndexValue → List (List (List ℕ)) → List ℕ

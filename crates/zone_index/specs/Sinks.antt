@@ -1,6 +1,7 @@
 -- What a sink writes of the records that match.
-use Rattle.std.specs.Prelude.{◌≡◌, ℕ, ◌+◌, ◌-◌, ◌^◌, min, List, [], ◌∷◌, ◌++◌, Bool, codes, if◌then◌else◌}
+use Rattle.std.specs.Prelude.{◌≡◌, ℕ, ◌+◌, ◌-◌, ◌^◌, min, List, [], ◌∷◌, ◌++◌, Bool, Option, codes, if◌then◌else◌}
 use Rattle.std.specs.Fmt.{decimal}
+use Rattle.std.specs.Io.KnownBytes.{Appends}
 use Rattle.std.specs.List.{flat_map}
 use Rattle.zone_index.specs.Zones.{zone_records}
 use Rattle.zone_index.specs.declared.zones.Zone.{Zone}
@@ -29,3 +30,7 @@ numbered_record number line = (decimal number ++ codes ":") ++ line
 -- each record is written as it stands
 abbrev pub IsPlain : (ℕ → List ℕ → List ℕ) → Type 0
 IsPlain written_as = (number : ℕ) (line : List ℕ) → written_as number line ≡ plain_record number line
+
+-- a beginning of these bytes was written, and nothing else
+abbrev pub WritesFirst : Option (List ℕ) → Option (List ℕ) → List ℕ → Type 0
+WritesFirst old new bytes = (out rest : List ℕ) × (bytes ≡ out ++ rest) × Appends old new out

@@ -1,7 +1,10 @@
 //! Fields of an index in bytes.
 
+ghost use Rattle.std.specs.Prelude.{◌≡◌, ◌≢◌, ℕ, List, IfErr, false, true};
 ghost use Rattle.std.specs.Int.{w32, w64};
+ghost use Rattle.zone_index.specs.Encoding.{ArePieces};
 ghost use Rattle.zone_index.specs.EncodingReading.{Gives, bytes_at, front_at, known_at, number_at, piece_at};
+ghost use Rattle.zone_index.specs.declared.encoding.ReadError.TheVariants.{Memory};
 
 use crate::encoding::{EncodingError, ReadError};
 
@@ -19,7 +22,8 @@ fn u32_at(bytes: &[u8]) -> Result<(u32, &[u8]), ReadError>
 
 /// The number in the first eight bytes, and what follows them.
 pub(crate) fn u64_at(bytes: &[u8]) -> Result<(u64, &[u8]), ReadError>
-    ensures { Gives (λ x. (x.0, x.1.now)) result (number_at w64 bytes.now) }
+    ensures read { Gives (λ x. (x.0, x.1.now)) result (number_at w64 bytes.now) }
+    ensures memory { IfErr result (λ e. e ≢ Memory) }
 {
     if bytes.len() < 8 {
         return Err(ReadError::Fault(EncodingError::Short));
@@ -70,7 +74,8 @@ pub(crate) fn bytes_in(bytes: &[u8]) -> Result<(&[u8], &[u8]), ReadError>
 /// The same, and the number stays before the bytes.
 #[tactic(auto, unfolding(crate::specs::EncodingReading::piece_at))]
 pub(crate) fn piece_in(bytes: &[u8]) -> Result<(&[u8], &[u8]), ReadError>
-    ensures { Gives (λ x. (x.0.now, x.1.now)) result (piece_at bytes.now) }
+    ensures read { Gives (λ x. (x.0.now, x.1.now)) result (piece_at bytes.now) }
+    ensures memory { IfErr result (λ e. e ≢ Memory) }
 {
     let (count, rest) = u64_at(bytes)?;
     let count = count as usize;
@@ -78,4 +83,19 @@ pub(crate) fn piece_in(bytes: &[u8]) -> Result<(&[u8], &[u8]), ReadError>
         return Err(ReadError::Fault(EncodingError::Short));
     }
     Ok(bytes.split_at(8 + count))
+}
+
+/// Whether bytes are so many pieces, each after its length, and nothing else. It takes no memory.
+pub fn are_pieces(count: usize, bytes: &[u8]) -> bool
+    ensures are { result ≡ true → (pieces : List (List ℕ)) × ArePieces count bytes.now pieces }
+    ensures none { result ≡ false → (pieces : List (List ℕ)) → ¬ (ArePieces count bytes.now pieces) }
+{
+    let mut rest = bytes;
+    for _ in 0..count {
+        match piece_in(rest) {
+            Ok((_, after)) => rest = after,
+            Err(_) => return false,
+        }
+    }
+    rest.is_empty()
 }

@@ -26,6 +26,7 @@ mod zones;
 pub use counting::count;
 pub use encoding::{Block, EncodingError, Index, MAGIC, ReadError, Root, VERSION, WriteError};
 pub use errors::{Cause, RecordError, Refusal, SearchError};
+pub use fields::are_pieces;
 pub use indexing::{Indexed, index_records};
 pub use read_at::{Asked, Logged, ReadAt, fill_from};
 pub use reading::{read_blocks, read_root};

@@ -1,14 +1,14 @@
 //! The search.
 
 ghost use Rattle.std.specs.Prelude.{◌≡◌, ◌≢◌, ◌<◌, ◌≤◌, ◌+◌, ◌++◌, ◌-◌, ◌^◌, ℕ, List, [], IfErr, IfOk, IfSome, None};
-ghost use Rattle.std.specs.Prelude.{OnOk, count_by, false, if◌then◌else◌, length, min, true};
+ghost use Rattle.std.specs.Prelude.{OnErr, OnOk, count_by, false, if◌then◌else◌, length, min, true};
 ghost use Rattle.std.specs.Io.KnownBytes.{Appends};
 ghost use Rattle.csv_records.specs.Records.{records_of};
 ghost use Rattle.zone_index.specs.Answers.{AnswersFind};
 ghost use Rattle.zone_index.specs.Asking.{Asks, AsksWithin};
 ghost use Rattle.zone_index.specs.Errors.{IfRefused, IsOfReading, IsOfRecord, TellsOneOf, TellsOffset, TellsRecord};
 ghost use Rattle.zone_index.specs.Errors.{before_refused};
-ghost use Rattle.zone_index.specs.Sinks.{told, written_of};
+ghost use Rattle.zone_index.specs.Sinks.{WritesFirst, told, written_of};
 ghost use Rattle.zone_index.specs.Zones.{AsksOfZone, IsHeld, IsIndexOf, IsOfZone, IsWayOf, IsZoneOf, is_copy};
 ghost use Rattle.zone_index.specs.Zones.{is_search, is_searched, is_skip, way_of, zone_bytes, zone_records};
 ghost use Rattle.zone_index.specs.declared.errors.SearchError.TheVariants.{CutShort, TooFar, Write as FailedWrite};
@@ -111,6 +111,10 @@ fn answer_zone<R: ReadAt, M: Matcher, S: Sink>(
     ensures kept { R.bytes reader.new ≡ R.bytes reader.old }
     ensures asks { Asks (AsksOfZone (M.decides matcher.now) zone.now) (R.asked reader.old) (R.asked reader.new) }
     ensures untouched { IfErr result (λ fault. fault ≢ FailedWrite → S.contents sink.new ≡ S.contents sink.old) }
+    ensures begun { OnErr result ((was : List ℕ) → IsHeld (R.bytes reader.old) was
+        → IsZoneOf (M.delimiter matcher.now) (M.has_row matcher.now) (M.Describes matcher.now) was zone.now
+        → WritesFirst (S.contents sink.old) (S.contents sink.new) (written_of S.written_as (M.matches matcher.now)
+        number (zone_records (M.delimiter matcher.now) was zone.now))) }
     ensures cut { IfErr result (λ fault. fault ≡ CutShort → IfSome (R.bytes reader.old)
         (λ bytes. length bytes < zone.now.first + zone.now.length)) }
     ensures far { IfErr result (λ fault. fault ≡ TooFar → 2 ^ 64 ≤ zone.now.first + zone.now.length) }

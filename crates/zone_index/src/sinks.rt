@@ -1,16 +1,16 @@
 //! Where the records that match go.
 
-ghost use Rattle.std.specs.Prelude.{◌≡◌, ◌++◌, ℕ, List, [], Bool, Option, IfErr, OnOk, true};
+ghost use Rattle.std.specs.Prelude.{◌≡◌, ◌++◌, ℕ, List, [], Bool, Option, IfErr, OnErr, OnOk, true};
 ghost use Rattle.std.specs.Io.KnownBytes.{Appends, Keeps};
 ghost use Rattle.csv_records.specs.Records.{records_of};
-ghost use Rattle.zone_index.specs.Sinks.{numbered_record, plain_record, written_of};
+ghost use Rattle.zone_index.specs.Sinks.{WritesFirst, numbered_record, plain_record, written_of};
 ghost use Rattle.zone_index.specs.declared.errors.SearchError.TheVariants.{Write as FailedWrite};
 
 use crate::errors::SearchError;
 use csv_records::{Delimiter, cut_record};
 use std::alloc::{AllocError, Global};
 use std::fmt::Write as WriteText;
-use std::io::Write;
+use std::io::{ErrorKind, Write};
 
 /// Takes the records that match, in order, and writes them.
 ///
@@ -56,9 +56,10 @@ pub trait Sink {
         Ok(())
     }
 
-    /// Writes what was taken.
+    /// Writes what was taken; a beginning of it, if a write fails.
     fn finish(&mut self) -> Result<(), SearchError>
         ensures written { OnOk result (Appends (contents self.old) (contents self.new) (taken self.old)) }
+        ensures begun { OnErr result (WritesFirst (contents self.old) (contents self.new) (taken self.old)) }
         ensures fault { IfErr result (λ fault. fault ≡ FailedWrite) };
 
     /// Has all that was written passed on.
@@ -189,13 +190,29 @@ fn push_numbered(
     output.extend_from_slice(line)
 }
 
-/// Writes all bytes.
+/// Writes all bytes. `write_all` does the same, and does not say what it wrote before it failed.
 fn write_out<W: Write>(writer: &mut W, output: &[u8]) -> Result<(), SearchError>
     ensures written { OnOk result
         (Appends (W.contents writer.old) (W.contents writer.new) output.now) }
+    ensures begun { WritesFirst (W.contents writer.old) (W.contents writer.new) output.now }
     ensures fault { IfErr result (λ fault. fault ≡ FailedWrite) }
 {
-    writer.write_all(output).map_err(|_| SearchError::Write)
+    let mut rest = output;
+    for _ in 0..u64::MAX {
+        if rest.is_empty() {
+            return Ok(());
+        }
+        match writer.write(rest) {
+            Ok(0) => return Err(SearchError::Write),
+            Ok(count) => rest = &rest[count..],
+            Err(error) => {
+                if error.kind() != ErrorKind::Interrupted {
+                    return Err(SearchError::Write);
+                }
+            }
+        }
+    }
+    Err(SearchError::Write)
 }
 
 /// Flushes the writer.

@@ -1,11 +1,12 @@
 //! The records of a stream are searched.
 
-ghost use Rattle.std.specs.Prelude.{◌≡◌, ◌≢◌, ◌<◌, ◌++◌, [], ℕ, List, None, Some, IfErr, IfOk, OnOk, count_by};
+ghost use Rattle.std.specs.Prelude.{◌≡◌, ◌≢◌, ◌<◌, ◌++◌, [], ℕ, List, None, Some, IfErr, IfOk, OnErr, OnOk, count_by};
 ghost use Rattle.std.specs.Io.KnownBytes.{Appends};
 ghost use Rattle.csv_records.specs.Records.{records_of};
 ghost use Rattle.zone_index.specs.Errors.{EndsFar, IfRefused, TellsOneOf, TellsOffset, before_refused};
 ghost use Rattle.zone_index.specs.Records.{kept_of};
-ghost use Rattle.zone_index.specs.Sinks.{IsPlain, written_of};
+ghost use Rattle.zone_index.specs.Sinks.{IsPlain, WritesFirst, written_of};
+ghost use Rattle.zone_index.specs.Taking.{StandsBehind};
 ghost use Rattle.zone_index.specs.declared.errors.SearchError.TheVariants.{CutShort, TooFar, Write as FailedWrite};
 
 use crate::counting::count_in;
@@ -19,7 +20,8 @@ use std::alloc::Global;
 use std::io::BufRead;
 
 /// Gives a sink the records that a reader has left and that match, in order, and writes them. Says
-/// how many they are. Takes `size` records at a time. The first one that is left stands at `start`.
+/// how many they are. Takes `size` records at a time, so that a search that stops at a record has read
+/// no further than that. The first one that is left stands at `start`.
 pub fn find_rest<B: BufRead, M: Matcher, S: Sink>(
     alloc: Global,
     size: u64,
@@ -44,6 +46,10 @@ pub fn find_rest<B: BufRead, M: Matcher, S: Sink>(
         → (first others : List (List ℕ)) × (records_of (M.delimiter matcher.now) bytes ≡ first ++ others)
         × Appends (S.contents sink.old) (S.contents sink.new)
         (written_of S.written_as (M.matches matcher.now) start.number first)) }
+    // After any error a beginning of the right output was written.
+    ensures begun { OnErr result ((bytes : List ℕ) → B.remaining reader.old ≡ Some bytes
+        → WritesFirst (S.contents sink.old) (S.contents sink.new) (written_of S.written_as (M.matches matcher.now)
+        start.number (records_of (M.delimiter matcher.now) bytes))) }
     ensures uncut { IfErr result (λ fault. fault ≢ CutShort) }
     ensures far { IfErr result (λ fault. fault ≡ TooFar → EndsFar 0 (B.remaining reader.old)) }
     // The record that is told is one of those, and begins there.
@@ -56,6 +62,9 @@ pub fn find_rest<B: BufRead, M: Matcher, S: Sink>(
     ensures first { IfErr result (IfRefused (λ refusal. (bytes : List ℕ) → B.remaining reader.old ≡ Some bytes
         → TellsOffset start.place (before_refused (M.is_refused matcher.now)
         (records_of (M.delimiter matcher.now) bytes)) refusal)) }
+    // It is one of the `size` records before what the reader has left.
+    ensures near { IfErr result (IfRefused (λ refusal. (bytes : List ℕ) → B.remaining reader.old ≡ Some bytes
+        → StandsBehind (M.delimiter matcher.now) size (M.is_refused matcher.now) bytes (B.remaining reader.new))) }
 {
     let delimiter = matcher.delimiter_byte();
     let mut text = Vec::new(alloc);
@@ -109,6 +118,9 @@ pub fn count_rest<B: BufRead, M: Matcher>(
     ensures first { IfErr result (IfRefused (λ refusal. (bytes : List ℕ) → B.remaining reader.old ≡ Some bytes
         → TellsOffset start (before_refused (M.is_refused matcher.now)
         (records_of (M.delimiter matcher.now) bytes)) refusal)) }
+    // It is one of the `size` records before what the reader has left.
+    ensures near { IfErr result (IfRefused (λ refusal. (bytes : List ℕ) → B.remaining reader.old ≡ Some bytes
+        → StandsBehind (M.delimiter matcher.now) size (M.is_refused matcher.now) bytes (B.remaining reader.new))) }
 {
     let delimiter = matcher.delimiter_byte();
     let mut text = Vec::new(alloc);

@@ -1,6 +1,6 @@
 //! An index is written as bytes.
 
-ghost use Rattle.std.specs.Prelude.{◌≡◌, ◌++◌, ◌<◌, ◌^◌, ℕ, List, [], IfErr, IfOk, OnOk, length, map};
+ghost use Rattle.std.specs.Prelude.{◌≡◌, ◌++◌, ◌<◌, ◌^◌, ℕ, List, [], IfErr, IfOk, OnOk, false, length, map, true};
 ghost use Rattle.std.specs.Int.{to_le_bytes, w64};
 ghost use Rattle.std.specs.List.{AllByRecursion, concat, flat_map};
 ghost use Rattle.sha2.specs.Sha256.{sha256};
@@ -9,10 +9,10 @@ ghost use Rattle.zone_index.specs.Encoding.{block_encoding, block_of, blocks_of,
 ghost use Rattle.zone_index.specs.Encoding.{file_encoding, index_encoding, index_value, root_of, zone_encoding};
 ghost use Rattle.zone_index.specs.Encoding.{zone_value, zone_values};
 ghost use Rattle.zone_index.specs.EncodingReading.{Gives, dealt_at};
-ghost use Rattle.zone_index.specs.declared.encoding.WriteError.TheVariants.{Pieces};
+ghost use Rattle.zone_index.specs.declared.encoding.WriteError.TheVariants.{Memory, Pieces};
 
 use crate::encoding::{EncodingError, Index, MAGIC, ReadError, VERSION, WriteError};
-use crate::fields::piece_in;
+use crate::fields::{are_pieces, piece_in};
 use crate::zones::Zone;
 use sha2::{Digest, Sha256};
 use std::alloc::{AllocError, Global};
@@ -148,20 +148,34 @@ fn deal(bytes: &[u8], blocks: &mut [Vec<u8>]) -> Result<(), ReadError>
     }
 }
 
+/// Whether the statistics of each zone are so many pieces.
+fn have_pieces(columns: usize, zones: &[Zone]) -> bool
+    ensures have { result ≡ true → (pieces : List (List (List ℕ)))
+        × HavePieces columns (zone_values zones.now) pieces }
+    ensures none { result ≡ false → (pieces : List (List (List ℕ)))
+        → ¬ (HavePieces columns (zone_values zones.now) pieces) }
+{
+    for zone in zones {
+        if !are_pieces(columns, &zone.statistics) {
+            return false;
+        }
+    }
+    true
+}
+
 /// The blocks of zones, so many.
-fn blocks_of(alloc: Global, columns: usize, zones: &[Zone]) -> Result<Vec<Vec<u8>>, WriteError>
-    ensures made { IfOk result (λ blocks. (pieces : List (List (List ℕ)))
+fn blocks_of(alloc: Global, columns: usize, zones: &[Zone]) -> Result<Vec<Vec<u8>>, AllocError>
+    requires { (pieces : List (List (List ℕ))) × HavePieces columns (zone_values zones.now) pieces }
+    ensures { IfOk result (λ blocks. (pieces : List (List (List ℕ)))
         × HavePieces columns (zone_values zones.now) pieces
         × (map (λ b. b.items) blocks.items ≡ blocks_of columns pieces)) }
-    ensures refused { IfErr result (λ e. e ≡ Pieces → (pieces : List (List (List ℕ)))
-        → ¬ (HavePieces columns (zone_values zones.now) pieces)) }
 {
     let mut blocks = empty_blocks(alloc, columns)?;
     for zone in zones {
         match deal(&zone.statistics, &mut blocks) {
             Ok(()) => {}
-            Err(ReadError::Memory) => return Err(WriteError::Memory),
-            Err(ReadError::Fault(_)) => return Err(WriteError::Pieces),
+            Err(ReadError::Memory) => return Err(AllocError),
+            Err(ReadError::Fault(_)) => unreachable!(),
         }
     }
     Ok(blocks)
@@ -199,16 +213,13 @@ fn push_signed(output: &mut Vec<u8>, content: &[u8]) -> Result<(), AllocError>
     output.extend_from_slice(&Sha256::digest(content))
 }
 
-/// The encoding of an index, the statistics of whose zones are so many pieces, each after its
-/// length.
-pub fn write_index(alloc: Global, columns: usize, index: &Index) -> Result<Vec<u8>, WriteError>
-    // It is the encoding of these pieces, and so is read back.
-    ensures written { IfOk result (λ v. (pieces : List (List (List ℕ)))
+/// The encoding of an index, where the statistics of each zone are so many pieces.
+fn encoding_of(alloc: Global, columns: usize, index: &Index) -> Result<Vec<u8>, AllocError>
+    requires { (pieces : List (List (List ℕ)))
+        × HavePieces columns (zone_values index.now.zones.items) pieces }
+    ensures { IfOk result (λ v. (pieces : List (List (List ℕ)))
         × FitsEncoding columns (index_value index.now) pieces
         × (v.items ≡ index_encoding columns (index_value index.now) pieces)) }
-    // It is refused only if they are no such pieces.
-    ensures refused { IfErr result (λ e. e ≡ Pieces → (pieces : List (List (List ℕ)))
-        → ¬ (HavePieces columns (zone_values index.now.zones.items) pieces)) }
 {
     let blocks = blocks_of(alloc, columns, &index.zones)?;
     let content = content_of(alloc, index, &blocks)?;
@@ -217,5 +228,25 @@ pub fn write_index(alloc: Global, columns: usize, index: &Index) -> Result<Vec<u
     output.extend_from_slice(&VERSION.to_le_bytes())?;
     push_signed(&mut output, &content)?;
     push_all(&mut output, &blocks)?;
+    Ok(output)
+}
+
+/// The encoding of an index, the statistics of whose zones are so many pieces, each after its
+/// length. Whether they are is tested before memory is asked for.
+pub fn write_index(alloc: Global, columns: usize, index: &Index) -> Result<Vec<u8>, WriteError>
+    // It is the encoding of these pieces, and so is read back.
+    ensures written { IfOk result (λ v. (pieces : List (List (List ℕ)))
+        × FitsEncoding columns (index_value index.now) pieces
+        × (v.items ≡ index_encoding columns (index_value index.now) pieces)) }
+    // It is refused exactly if they are no such pieces.
+    ensures refused { IfErr result (λ e. e ≡ Pieces → (pieces : List (List (List ℕ)))
+        → ¬ (HavePieces columns (zone_values index.now.zones.items) pieces)) }
+    ensures memory { IfErr result (λ e. e ≡ Memory → (pieces : List (List (List ℕ)))
+        × HavePieces columns (zone_values index.now.zones.items) pieces) }
+{
+    if !have_pieces(columns, &index.zones) {
+        return Err(WriteError::Pieces);
+    }
+    let output = encoding_of(alloc, columns, index)?;
     Ok(output)
 }

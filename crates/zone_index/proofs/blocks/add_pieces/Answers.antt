@@ -11,11 +11,11 @@ loop-zone-init c = dealt_begins zone_value with_statistics c.args.zones.now c.ar
 pub returns-in_err-piece : goal.returns-in_err-piece
 returns-in_err-piece c =
     let p = err_from_is_err_and c.from_residual.result c.from_residual.ensures.1 in
-    rw (p.1, p.2) (dealt_fails zone_value with_statistics c.args.zones.now c.loop-zone.zones c.args.bytes.now c.loop-zone.rest.now c.loop-zone.zone-index c.in_err-piece.field-0.0 c.zone-item.result (omega (arith, c.loop-zone-test.true, c.loop-zone.auto.zones)) c.in_err-piece.ensures c.loop-zone.invariant)
+    rw (p.1, p.2) (dealt_fails zone_value with_statistics c.args.zones.now c.loop-zone.zones c.args.bytes.now c.loop-zone.rest.now c.loop-zone.zone-index c.in_err-piece.field-0.0 c.zone-item.result (omega (arith, c.loop-zone-test.true, c.loop-zone.auto.zones)) c.in_err-piece.ensures.read c.loop-zone.invariant)
 
 pub loop-zone-preserved : goal.loop-zone-preserved
 loop-zone-preserved c =
-    dealt_more zone_value with_statistics c.args.zones.now c.loop-zone.zones c.args.bytes.now c.loop-zone.rest.now c.in_ok-piece.piece.now c.in_ok-piece.after.now c.loop-zone.zone-index (record (get_or c.loop-zone.zones c.loop-zone.zone-index c.zone-item.result) { statistics = c.extend_from_slice.new.self }) c.zone-item.result (omega (arith, c.loop-zone-test.true, c.loop-zone.auto.zones)) c.in_ok-piece.ensures
+    dealt_more zone_value with_statistics c.args.zones.now c.loop-zone.zones c.args.bytes.now c.loop-zone.rest.now c.in_ok-piece.piece.now c.in_ok-piece.after.now c.loop-zone.zone-index (record (get_or c.loop-zone.zones c.loop-zone.zone-index c.zone-item.result) { statistics = c.extend_from_slice.new.self }) c.zone-item.result (omega (arith, c.loop-zone-test.true, c.loop-zone.auto.zones)) c.in_ok-piece.ensures.read
     (ap (λ (s : List ℕ). record (zone_value (get_or c.loop-zone.zones c.loop-zone.zone-index c.zone-item.result)) { statistics = s }) c.in_ok-extend_from_slice.ensures.items) c.loop-zone.invariant
 
 pub returns-then-is_empty : goal.returns-then-is_empty

@@ -1,8 +1,9 @@
 -- What is written of a zone, in each of the three ways, and what is asked for.
 use Rattle.std.proofs.Common.{ap, subst}
+use Rattle.std.proofs.lemmas.Result.{err_from_is_err_and}
 use Rattle.zone_index.specs.Zones.{IsWayOf, is_skip}
 use Rattle.zone_index.proofs.Answering.{copied_counted, none_match, not_skipped}
-use Rattle.zone_index.proofs.Sinking.{zone_copied, zone_skipped}
+use Rattle.zone_index.proofs.Sinking.{first_copied, first_kept, first_none, first_searched, zone_copied, zone_skipped}
 use Rattle.zone_index.proofs.search.answer_zone.Goals as goal
 
 pub returns-in-Skip-clause-written : goal.returns-in-Skip-clause-written
@@ -37,3 +38,43 @@ returns-in_err-finish-in-Search-clause-asks g c =
 pub returns-in_ok-finish-in-Search-clause-asks : goal.returns-in_ok-finish-in-Search-clause-asks
 returns-in_ok-finish-in-Search-clause-asks g c =
     not_skipped (g.M.Matcher.decides c.args.matcher.now) c.args.zone.now c.in_ok-way.way _ (g.R.ReadAt.asked c.read_zone-in-Search.new.reader) c.in_ok-way.ensures.way (ap is_skip c.in-Search.is) c.in_ok-piece-in-Search.ensures.asks
+
+pub returns-in_err-way-clause-begun : goal.returns-in_err-way-clause-begun
+returns-in_err-way-clause-begun g c =
+    let p = err_from_is_err_and c.from_residual.result c.from_residual.ensures.1 in
+    rw p.1 (λ was held zone. first_none _ _)
+
+pub returns-in_err-whole-in-Copy-clause-begun : goal.returns-in_err-whole-in-Copy-clause-begun
+returns-in_err-whole-in-Copy-clause-begun g c =
+    let p = err_from_is_err_and c.from_residual-in_err-whole-in-Copy.result c.from_residual-in_err-whole-in-Copy.ensures.1 in
+    rw p.1 (λ was held zone. first_none _ _)
+
+pub returns-in_err-piece-in-Search-clause-begun : goal.returns-in_err-piece-in-Search-clause-begun
+returns-in_err-piece-in-Search-clause-begun g c =
+    let p = err_from_is_err_and c.from_residual-in_err-piece-in-Search.result c.from_residual-in_err-piece-in-Search.ensures.1 in
+    rw p.1 (λ was held zone. first_none _ _)
+
+pub returns-in_err-give_whole-in-Copy-clause-begun : goal.returns-in_err-give_whole-in-Copy-clause-begun
+returns-in_err-give_whole-in-Copy-clause-begun g c =
+    let p = err_from_is_err_and c.from_residual-in_err-give_whole-in-Copy.result c.from_residual-in_err-give_whole-in-Copy.ensures.1 in
+    rw p.1 (λ was held zone. first_kept _ _ _ c.give_whole.ensures.kept)
+
+pub returns-in_err-hits-in-Search-clause-begun : goal.returns-in_err-hits-in-Search-clause-begun
+returns-in_err-hits-in-Search-clause-begun g c =
+    let p = err_from_is_err_and c.from_residual-in_err-hits-in-Search.result c.from_residual-in_err-hits-in-Search.ensures.1 in
+    rw p.1 (λ was held zone. first_kept _ _ _ c.give_hits.ensures.kept)
+
+pub returns-in_err-finish-in-Copy-clause-begun : goal.returns-in_err-finish-in-Copy-clause-begun
+returns-in_err-finish-in-Copy-clause-begun g c =
+    let p = err_from_is_err_and c.from_residual-in_err-finish-in-Copy.result c.from_residual-in_err-finish-in-Copy.ensures.1 in
+    rw p.1 (λ was held zone.
+    first_copied _ (g.S.Sink.contents c.give_whole.new.sink) _ g.S.Sink.written_as (g.M.Matcher.matches c.args.matcher.now) (g.M.Records.delimiter c.args.matcher.now) c.delimiter_byte.result.byte c.args.number was c.in_ok-whole-in-Copy.whole.items (g.S.Sink.taken c.give_whole.new.sink) c.args.zone.now
+    (subst (IsWayOf (g.M.Records.delimiter c.args.matcher.now) (g.M.Records.has_row c.args.matcher.now) (g.M.Records.Describes c.args.matcher.now) (g.M.Matcher.matches c.args.matcher.now) c.args.zone.now) c.in-Copy.is c.in_ok-way.ensures.right was zone)
+    c.delimiter_byte.ensures (c.in_ok-whole-in-Copy.ensures.read was held zone.inside) c.in_ok-give_whole-in-Copy.ensures.taken c.give_whole.ensures.kept c.in_err-finish-in-Copy.ensures.begun)
+
+pub returns-in_err-finish-in-Search-clause-begun : goal.returns-in_err-finish-in-Search-clause-begun
+returns-in_err-finish-in-Search-clause-begun g c =
+    let p = err_from_is_err_and c.from_residual-in_err-finish-in-Search.result c.from_residual-in_err-finish-in-Search.ensures.1 in
+    rw p.1 (λ was held zone.
+    first_searched _ (g.S.Sink.contents c.give_hits.new.sink) _ g.S.Sink.written_as (g.M.Matcher.matches c.args.matcher.now) (g.M.Records.delimiter c.args.matcher.now) c.args.number was c.in_ok-piece-in-Search.piece.items c.deref.result.now (g.S.Sink.taken c.give_hits.new.sink) c.args.zone.now
+    c.deref.ensures.value (c.in_ok-piece-in-Search.ensures.read was held zone.inside) c.in_ok-hits-in-Search.ensures.taken c.give_hits.ensures.kept c.in_err-finish-in-Search.ensures.begun)

@@ -1,14 +1,14 @@
 -- A zone more, and all of them.
-use Rattle.std.proofs.Common.{rules, arith, sym, ap, subst, ℕ, List, Option, take}
+use Rattle.std.proofs.Common.{rules, arith, refl, sym, ap, subst, ℕ, List, Option, take}
 use Rattle.std.proofs.lemmas.Result.{err_from_is_err_and}
 use Rattle.std.specs.Io.KnownBytes.{Appends}
-use Rattle.zone_index.specs.Sinks.{written_in}
+use Rattle.zone_index.specs.Sinks.{WritesFirst, written_in, written_of}
 use Rattle.zone_index.specs.Zones.{IsHeld, IsZoneOf, found_in, is_copied, is_copy, is_search, is_searched, is_skip, is_skipped, zone_records}
 use Rattle.zone_index.proofs.Finding.{asks_zone, at_item, capped_all, capped_more, counted_more, counted_whole, cut_in_zone, far_in_zone}
 use Rattle.zone_index.proofs.Rests.{appends-kept}
 use Rattle.zone_index.proofs.Refusing.{refused_in_zone}
 use Rattle.zone_index.proofs.Sifting.{first_in_zones, zone_sifted, zones_sifted}
-use Rattle.zone_index.proofs.Sinking.{found_written, kept_written, number_more, written_more, written_whole}
+use Rattle.zone_index.proofs.Sinking.{first_in_zone, first_of_all, found_written, kept_written, number_more, written_more, written_whole}
 use Rattle.zone_index.proofs.search.find.Goals as goal
 
 pub loop-zone-preserved : goal.loop-zone-preserved
@@ -64,6 +64,9 @@ returns-in_err-way-clause-answer g c =
       searched = tt;
       partial = λ other was start held index. (i, subst (λ (o : Option (List ℕ)). Appends (g.S.Sink.contents c.args.sink.now) o (written_in f keep c.args.first d was (take i zones))) (sym (c.in_err-way.ensures.untouched other)) (before.written was held index.right));
       partial_plain = λ other plain was start held index. (i, subst (λ (o : Option (List ℕ)). Appends (g.S.Sink.contents c.args.sink.now) o (found_in d keep was (take i zones))) (sym (c.in_err-way.ensures.untouched other)) (found_written _ _ f keep c.args.first d was (take i zones) plain (before.written was held index.right)));
+      begun = λ was start held index. subst (WritesFirst (g.S.Sink.contents c.args.sink.now) (g.S.Sink.contents c.answer_zone.new.sink)) (ap (written_of f keep c.args.first) (sym index.records))
+          (first_in_zone _ _ _ f keep d has_row Describes was zones i item c.args.first c.loop-zone.number (search rules) c.zone-item.is index.right before.number (before.written was held index.right)
+          (c.in_err-way.ensures.begun was (subst (λ (known : Option (List ℕ)). IsHeld known was) (sym before.same) held) (at_item (IsZoneOf d has_row Describes was) zones i item (search rules) c.zone-item.is index.right)));
       stops = record {
         cut = λ short. cut_in_zone d has_row Describes _ (g.R.ReadAt.bytes c.loop-zone.reader) zones i item (search rules) c.zone-item.is before.same (c.in_err-way.ensures.cut short);
         far = λ past was start index. far_in_zone d has_row Describes zones i item was start (search rules) c.zone-item.is (c.in_err-way.ensures.far past) index;
@@ -93,5 +96,32 @@ returns-clause-answer g c =
       searched = counted_whole (is_searched decides) zones i c.loop-zone.tally.searched (search rules) before.searched;
       partial = tt;
       partial_plain = tt;
+      begun = tt;
       stops = tt;
     }
+
+pub returns-in_err-flush-clause-answer : goal.returns-in_err-flush-clause-answer
+returns-in_err-flush-clause-answer g c =
+    let p = err_from_is_err_and c.from_residual-in_err-flush.result c.from_residual-in_err-flush.ensures.1 in
+    let before = c.loop-zone.invariant in
+    let zones = c.args.zones.now in
+    let i = c.loop-zone.zone-index in
+    let f = g.S.Sink.written_as in
+    let keep = g.M.Matcher.matches c.args.matcher.now in
+    let d = g.M.Records.delimiter c.args.matcher.now in
+    let has_row = g.M.Records.has_row c.args.matcher.now in
+    let Describes = g.M.Records.Describes c.args.matcher.now in
+    let failed = c.in_err-flush.ensures.fault in
+    rw (p.1, p.2, failed) (record {
+      written = tt;
+      plain = tt;
+      found = tt;
+      passed = tt;
+      skipped = tt;
+      copied = tt;
+      searched = tt;
+      partial = λ other. absurd (other refl);
+      partial_plain = λ other. absurd (other refl);
+      begun = λ was start held index. first_of_all _ _ _ (appends-kept _ (g.S.Sink.contents c.loop-zone.sink) _ _ (written_whole _ _ f keep d has_row Describes start c.args.first zones was i (search rules) index (before.written was held index.right)) c.flush.ensures.kept);
+      stops = record { cut = λ short. absurd cc; far = λ past. absurd cc; refused = tt; first = tt };
+    })

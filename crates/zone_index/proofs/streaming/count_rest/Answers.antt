@@ -5,7 +5,7 @@ use Rattle.std.proofs.lemmas.List.{nil_from_length}
 use Rattle.std.proofs.lemmas.Result.{err_from_is_err_and}
 use Rattle.zone_index.proofs.Refusing.{passed_far, passed_more, passed_none, refused_in_piece}
 use Rattle.zone_index.proofs.Rests.{counted_all, counted_more, counted_none}
-use Rattle.zone_index.proofs.Sifting.{at_end, first_in_piece, rest_all, rest_more, rest_none}
+use Rattle.zone_index.proofs.Sifting.{at_end, first_in_piece, judged_more, judged_none, rest_all, rest_more, rest_none, stands_behind}
 use Rattle.zone_index.proofs.streaming.count_rest.Goals as goal
 
 pub loop-text-init : goal.loop-text-init
@@ -13,6 +13,7 @@ loop-text-init g c = record {
   counted = λ bytes is. counted_none _ _ bytes _ is;
   behind = λ bytes is. passed_none _ bytes _ is;
   sifted = λ bytes is. rest_none _ _ bytes _ is;
+  judged = λ bytes is. judged_none _ _ bytes _ is;
   few = search rules;
 }
 
@@ -38,6 +39,9 @@ loop-text-preserved g c = record {
   sifted = λ bytes is.
       let s = c.loop-text.invariant.sifted bytes is in
       rest_more (g.M.Records.is_refused c.args.matcher.now) (g.M.Records.delimiter c.args.matcher.now) c.delimiter_byte-delimiter.result.byte bytes c.take_records.new.text.items c.deref.result.now _ (g.B.Read.remaining c.take_records.new.reader) c.loop-text.passed _ s c.delimiter_byte-delimiter.ensures (c.in_ok-take_records.ensures.taken s.rest s.is) (search rules) c.deref.ensures.value c.in_ok-hits.ensures.passed;
+  judged = λ bytes is.
+      let s = c.loop-text.invariant.judged bytes is in
+      judged_more (g.M.Records.is_refused c.args.matcher.now) (g.M.Records.delimiter c.args.matcher.now) c.delimiter_byte-delimiter.result.byte bytes c.take_records.new.text.items c.deref.result.now _ (g.B.Read.remaining c.take_records.new.reader) s c.delimiter_byte-delimiter.ensures (c.in_ok-take_records.ensures.taken s.rest s.is) c.deref.ensures.value c.in_ok-hits.ensures.passed;
   few = omega (arith, c.loop-text.invariant.few, c.in_ok-hits.ensures.few, c.in-Some.ensures, c.deref.ensures.len, c.len.ensures);
 }
 
@@ -62,3 +66,9 @@ pub returns-then-is_empty-clause-ended : goal.returns-then-is_empty-clause-ended
 returns-then-is_empty-clause-ended g c =
     let none : c.take_records.new.text.items ≡ [] = first_of (search (rules, nil_from_length), grind (arith, common_steps, nil_from_length)) in
     λ bytes is. let s = c.loop-text.invariant.sifted bytes is in at_end _ s.rest _ _ (c.in_ok-take_records.ensures.taken s.rest s.is) (c.in_ok-take_records.ensures.ended s.rest s.is none)
+
+pub returns-in_err-hits-clause-near : goal.returns-in_err-hits-clause-near
+returns-in_err-hits-clause-near g c =
+    let p = err_from_is_err_and c.from_residual-in_err-hits.result c.from_residual-in_err-hits.ensures.1 in
+    rw (p.1, p.2) (stands_behind (g.M.Records.is_refused c.args.matcher.now) (g.M.Records.delimiter c.args.matcher.now) c.delimiter_byte-delimiter.result.byte c.args.size c.take_records.new.text.items c.deref.result.now _ _ (g.B.Read.remaining c.take_records.new.reader) _ c.in_err-hits.field-0.0
+    c.loop-text.invariant.judged c.delimiter_byte-delimiter.ensures c.in_ok-take_records.ensures.taken c.in_ok-take_records.ensures.many c.deref.ensures.value c.in_err-hits.ensures.first)

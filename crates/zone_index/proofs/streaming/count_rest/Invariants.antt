@@ -1,7 +1,7 @@
 -- As many as match in what was taken so far.
 use Rattle.std.proofs.Common.{◌≡◌, ◌≤◌, ◌-◌, ◌^◌, List, Some, ℕ}
 use Rattle.zone_index.proofs.Refusing.{IsPassed}
-use Rattle.zone_index.proofs.Sifting.{SiftedRest}
+use Rattle.zone_index.proofs.Sifting.{IsJudged, SiftedRest}
 use Rattle.zone_index.proofs.Rests.{Counted}
 use Rattle.zone_index.proofs.streaming.count_rest.Given as goal
 
@@ -10,6 +10,7 @@ invariant-loop-text g l = record {
   counted : (bytes : List ℕ) → g.B.Read.remaining l.initial.reader ≡ Some bytes → Counted (g.M.Records.delimiter l.matcher) (g.M.Matcher.matches l.matcher) bytes (g.B.Read.remaining l.reader) l.total;
   behind : (bytes : List ℕ) → g.B.Read.remaining l.initial.reader ≡ Some bytes → IsPassed (g.M.Records.delimiter l.matcher) bytes (g.B.Read.remaining l.reader) l.passed;
   sifted : (bytes : List ℕ) → g.B.Read.remaining l.initial.reader ≡ Some bytes → SiftedRest (g.M.Records.is_refused l.matcher) (g.M.Records.delimiter l.matcher) bytes (g.B.Read.remaining l.reader) l.passed;
+  judged : (bytes : List ℕ) → g.B.Read.remaining l.initial.reader ≡ Some bytes → IsJudged (g.M.Records.is_refused l.matcher) (g.M.Records.delimiter l.matcher) bytes (g.B.Read.remaining l.reader);
   few : l.total ≤ l.passed;
 }
 

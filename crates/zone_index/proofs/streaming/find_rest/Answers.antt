@@ -5,9 +5,9 @@ use Rattle.std.proofs.lemmas.List.{nil_from_length}
 use Rattle.std.proofs.lemmas.Result.{err_from_is_err_and}
 use Rattle.csv_records.specs.Records.{records_of}
 use Rattle.zone_index.proofs.Refusing.{passed_far, passed_more, passed_none, refused_in_piece}
-use Rattle.zone_index.proofs.Rests.{all_counted, all_written, first_written, searched_more, searched_none}
+use Rattle.zone_index.proofs.Rests.{all_counted, all_written, first_written, keeps-same, searched_first, searched_more, searched_none, searched_then}
 use Rattle.zone_index.proofs.Sinking.{kept_written}
-use Rattle.zone_index.proofs.Sifting.{at_end, first_in_piece, rest_all, rest_more, rest_none}
+use Rattle.zone_index.proofs.Sifting.{at_end, first_in_piece, judged_more, judged_none, rest_all, rest_more, rest_none, stands_behind}
 use Rattle.zone_index.proofs.streaming.find_rest.Goals as goal
 
 pub loop-text-init : goal.loop-text-init
@@ -15,6 +15,7 @@ loop-text-init g c = record {
   searched = λ bytes is. searched_none _ _ _ _ bytes _ _ is;
   behind = λ bytes is. passed_none _ bytes _ is;
   sifted = λ bytes is. rest_none _ _ bytes _ is;
+  judged = λ bytes is. judged_none _ _ bytes _ is;
   few = search rules;
 }
 
@@ -30,6 +31,9 @@ loop-text-preserved g c = record {
   sifted = λ bytes is.
       let s = c.loop-text.invariant.sifted bytes is in
       rest_more (g.M.Records.is_refused c.args.matcher.now) (g.M.Records.delimiter c.args.matcher.now) c.delimiter_byte-delimiter.result.byte bytes c.take_records.new.text.items c.deref.result.now _ (g.B.Read.remaining c.take_records.new.reader) c.loop-text.passed _ s c.delimiter_byte-delimiter.ensures (c.in_ok-take_records.ensures.taken s.rest s.is) (search rules) c.deref.ensures.value c.in_ok-hits.ensures.passed;
+  judged = λ bytes is.
+      let s = c.loop-text.invariant.judged bytes is in
+      judged_more (g.M.Records.is_refused c.args.matcher.now) (g.M.Records.delimiter c.args.matcher.now) c.delimiter_byte-delimiter.result.byte bytes c.take_records.new.text.items c.deref.result.now _ (g.B.Read.remaining c.take_records.new.reader) s c.delimiter_byte-delimiter.ensures (c.in_ok-take_records.ensures.taken s.rest s.is) c.deref.ensures.value c.in_ok-hits.ensures.passed;
   few = omega (arith, c.loop-text.invariant.few, c.in_ok-hits.ensures.few, c.in-Some.ensures, c.deref.ensures.len, c.len.ensures);
 }
 
@@ -87,3 +91,35 @@ pub returns-then-is_empty-clause-ended : goal.returns-then-is_empty-clause-ended
 returns-then-is_empty-clause-ended g c =
     let none : c.take_records.new.text.items ≡ [] = first_of (search (rules, nil_from_length), grind (arith, common_steps, nil_from_length)) in
     λ bytes is. let s = c.loop-text.invariant.sifted bytes is in at_end _ s.rest _ _ (c.in_ok-take_records.ensures.taken s.rest s.is) (c.in_ok-take_records.ensures.ended s.rest s.is none)
+
+pub returns-in_err-hits-clause-near : goal.returns-in_err-hits-clause-near
+returns-in_err-hits-clause-near g c =
+    let p = err_from_is_err_and c.from_residual-in_err-hits.result c.from_residual-in_err-hits.ensures.1 in
+    rw (p.1, p.2) (stands_behind (g.M.Records.is_refused c.args.matcher.now) (g.M.Records.delimiter c.args.matcher.now) c.delimiter_byte-delimiter.result.byte c.args.size c.take_records.new.text.items c.deref.result.now _ _ (g.B.Read.remaining c.take_records.new.reader) _ c.in_err-hits.field-0.0
+    c.loop-text.invariant.judged c.delimiter_byte-delimiter.ensures c.in_ok-take_records.ensures.taken c.in_ok-take_records.ensures.many c.deref.ensures.value c.in_err-hits.ensures.first)
+
+pub returns-in_err-take_records-clause-begun : goal.returns-in_err-take_records-clause-begun
+returns-in_err-take_records-clause-begun g c =
+    let p = err_from_is_err_and c.from_residual.result c.from_residual.ensures.1 in
+    rw p.1 (λ bytes is. searched_first _ _ _ _ bytes _ _ _ _ _ _ (c.loop-text.invariant.searched bytes is) (keeps-same _ _ (search rules)))
+
+pub returns-in_err-flush-clause-begun : goal.returns-in_err-flush-clause-begun
+returns-in_err-flush-clause-begun g c =
+    let p = err_from_is_err_and c.from_residual-in_err-flush.result c.from_residual-in_err-flush.ensures.1 in
+    rw p.1 (λ bytes is. searched_first _ _ _ _ bytes _ _ _ _ _ _ (c.loop-text.invariant.searched bytes is) c.flush.ensures.kept)
+
+pub returns-in_err-hits-clause-begun : goal.returns-in_err-hits-clause-begun
+returns-in_err-hits-clause-begun g c =
+    let p = err_from_is_err_and c.from_residual-in_err-hits.result c.from_residual-in_err-hits.ensures.1 in
+    rw p.1 (λ bytes is. searched_first _ _ _ _ bytes _ _ _ _ _ _ (c.loop-text.invariant.searched bytes is) (keeps-same _ _ c.give_hits.ensures.kept))
+
+pub returns-in-None-clause-begun : goal.returns-in-None-clause-begun
+returns-in-None-clause-begun g c = λ bytes is. searched_first _ _ _ _ bytes _ _ _ _ _ _ (c.loop-text.invariant.searched bytes is) (keeps-same _ _ c.give_hits.ensures.kept)
+
+pub returns-in_err-finish-clause-begun : goal.returns-in_err-finish-clause-begun
+returns-in_err-finish-clause-begun g c =
+    let p = err_from_is_err_and c.from_residual-in_err-finish.result c.from_residual-in_err-finish.ensures.1 in
+    rw p.1 (λ bytes is.
+    let s = c.loop-text.invariant.searched bytes is in
+    searched_then g.S.Sink.written_as c.args.start.number (g.M.Records.delimiter c.args.matcher.now) c.delimiter_byte-delimiter.result.byte (g.M.Matcher.matches c.args.matcher.now) bytes c.take_records.new.text.items c.deref.result.now (g.S.Sink.taken c.give_hits.new.sink) _ (g.B.Read.remaining c.take_records.new.reader) _ _ (g.S.Sink.contents c.give_hits.new.sink) (g.S.Sink.contents c.finish.new.self) c.loop-text.found c.loop-text.number s
+    c.delimiter_byte-delimiter.ensures (c.in_ok-take_records.ensures.taken s.rest s.is) c.deref.ensures.value c.in_ok-hits.ensures.taken c.give_hits.ensures.kept c.in_err-finish.ensures.begun)

@@ -12,13 +12,13 @@ view b = b.items
 pub loop-zone-init : goal.loop-zone-init
 loop-zone-init c = none_yet c.args.columns (map view c.in_ok-blocks.blocks.items) c.in_ok-blocks.ensures
 
-pub returns-in-Err-Fault-clause-refused : goal.returns-in-Err-Fault-clause-refused
-returns-in-Err-Fault-clause-refused c =
+pub unreachable-requires : goal.unreachable-requires
+unreachable-requires c =
     let f = c.in-Err-Fault.field-0-0 in
     let fails : dealt_at append (map view c.deref_mut.result.now) c.deref.result.now ≡ Err f = rw c.in-Err-Fault.field-0-is at c.in-Err-Fault.ensures.exact in
     let here : dealt_at append (map view c.loop-zone.blocks.items) c.deref.result.now ≡ Err f = subst (λ (bs : List (Vec ℕ Global)). dealt_at append (map view bs) c.deref.result.now ≡ Err f) c.deref_mut.ensures.value fails in
     let there : dealt_at append (map view c.loop-zone.blocks.items) c.zone-item.result.statistics.items ≡ Err f = subst (λ (s : List ℕ). dealt_at append (map view c.loop-zone.blocks.items) s ≡ Err f) c.deref.ensures.value here in
-    λ e pieces have. no_pieces zone_value c.args.columns _ c.args.zones.now c.loop-zone.zone-index c.zone-item.result (map view c.loop-zone.blocks.items) f c.loop-zone.invariant (search rules) c.zone-item.is there pieces have
+    no_pieces zone_value c.args.columns _ c.args.zones.now c.loop-zone.zone-index c.zone-item.result (map view c.loop-zone.blocks.items) f c.loop-zone.invariant (search rules) c.zone-item.is there c.requires.0 c.requires.1
 
 pub loop-zone-preserved : goal.loop-zone-preserved
 loop-zone-preserved c =
@@ -33,7 +33,7 @@ loop-zone-preserved c =
     let with_it = blocks_with c.args.columns _ _ (zone_value c.zone-item.result) (map view old) (map view new) more c.loop-zone.invariant there in
     subst (λ (bs : List (Vec ℕ Global)). AreBlocks c.args.columns (zone_values (take (c.loop-zone.zone-index + 1) c.args.zones.now)) (map view bs)) (sym back) with_it
 
-pub returns-clause-made : goal.returns-clause-made
-returns-clause-made c =
+pub returns : goal.returns
+returns c =
     let all = subst (λ zs. AreBlocks c.args.columns zs (map view c.loop-zone.blocks.items)) (all_taken zone_value c.args.zones.now c.loop-zone.zone-index (search rules)) c.loop-zone.invariant in
     (all.pieces, all.have, all.are)

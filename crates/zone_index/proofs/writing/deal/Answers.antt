@@ -14,11 +14,11 @@ loop-block-init c = dealt_begins (λ (b : Vec ℕ Global). b.items) append c.arg
 pub returns-in_err-piece-clause-exact : goal.returns-in_err-piece-clause-exact
 returns-in_err-piece-clause-exact c =
     let p = err_from_is_err_and c.from_residual.result c.from_residual.ensures.1 in
-    rw (p.1, p.2) (dealt_fails (λ (b : Vec ℕ Global). b.items) append c.args.blocks.now c.loop-block.blocks c.args.bytes.now c.loop-block.rest.now c.loop-block.block-index c.in_err-piece.field-0.0 c.block-item.result (omega (arith, c.loop-block-test.true, c.loop-block.auto.blocks)) c.in_err-piece.ensures c.loop-block.invariant)
+    rw (p.1, p.2) (dealt_fails (λ (b : Vec ℕ Global). b.items) append c.args.blocks.now c.loop-block.blocks c.args.bytes.now c.loop-block.rest.now c.loop-block.block-index c.in_err-piece.field-0.0 c.block-item.result (omega (arith, c.loop-block-test.true, c.loop-block.auto.blocks)) c.in_err-piece.ensures.read c.loop-block.invariant)
 
 pub loop-block-preserved : goal.loop-block-preserved
 loop-block-preserved c =
-    dealt_more (λ (b : Vec ℕ Global). b.items) append c.args.blocks.now c.loop-block.blocks c.args.bytes.now c.loop-block.rest.now c.in_ok-piece.piece.now c.in_ok-piece.after.now c.loop-block.block-index _ c.block-item.result (omega (arith, c.loop-block-test.true, c.loop-block.auto.blocks)) c.in_ok-piece.ensures
+    dealt_more (λ (b : Vec ℕ Global). b.items) append c.args.blocks.now c.loop-block.blocks c.args.bytes.now c.loop-block.rest.now c.in_ok-piece.piece.now c.in_ok-piece.after.now c.loop-block.block-index _ c.block-item.result (omega (arith, c.loop-block-test.true, c.loop-block.auto.blocks)) c.in_ok-piece.ensures.read
     c.in_ok-extend_from_slice.ensures.items c.loop-block.invariant
 
 pub returns-then-is_empty-clause-exact : goal.returns-then-is_empty-clause-exact
