@@ -1,10 +1,11 @@
 # SPDX-License-Identifier: Apache-2.0
-"""The characters of Unicode: which zones of a file a filter need not read, and which rows it finds.
+"""The characters of Unicode: which zones of a file a filter need not read, and that SQLite finds the same rows by the same words.
 
 The file is the one of Debian's package unicode-data; another path may follow the script's name. It has a character on a line,
 in the order of their numbers, with semicolons between its fields.
 """
 
+import sqlite3
 import sys
 
 from doqallin import Filter, Zones, column, columns, statistics
@@ -12,25 +13,26 @@ from doqallin import Filter, Zones, column, columns, statistics
 ZONE = 256
 path = sys.argv[1] if len(sys.argv) > 1 else "/usr/share/unicode/UnicodeData.txt"
 with open(path, encoding="utf-8") as file:
-    rows = [line.rstrip("\n").split(";") for line in file]
+    fields = [line.rstrip("\n").split(";") for line in file]
+rows = [(int(row[0], 16), row[1], row[2], int(row[6]) if row[6] else None) for row in fields]
 
-# %% Zones of so many rows, each with four columns. An empty field is a null.
-zones = [
-    columns(
-        {
-            "code": [int(row[0], 16) for row in rows[start : start + ZONE]],
-            "name": [row[1] for row in rows[start : start + ZONE]],
-            "category": [row[2] for row in rows[start : start + ZONE]],
-            # Without its kind, a column of nothing but nulls would have none.
-            "digit": column([int(row[6]) if row[6] else None for row in rows[start : start + ZONE]], "i64"),
-        }
-    )
-    for start in range(0, len(rows), ZONE)
-]
+
+# %% Zones of so many rows, each with four columns. Where all digits are null, the column needs its kind.
+def zone_of(some):
+    code, name, category, digit = map(list, zip(*some))
+    return columns({"code": code, "name": name, "category": category, "digit": column(digit, "i64")})
+
+
+zones = [zone_of(rows[start : start + ZONE]) for start in range(0, len(rows), ZONE)]
 
 # %% Their statistics are all that is needed to choose zones.
 known = Zones([statistics(zone) for zone in zones])
 print(f"{len(rows)} characters in {len(zones)} zones")
+
+# %% The same rows in SQLite.
+store = sqlite3.connect(":memory:")
+store.execute("create table characters (code, name, category, digit)")
+store.executemany("insert into characters values (?, ?, ?, ?)", rows)
 
 # %% What is asked for: the zones that may have it, and the rows of these that match.
 TYPES = {"code": "i64?", "name": "utf8?", "category": "utf8?", "digit": "i64?"}
@@ -41,9 +43,11 @@ for text in [
 ]:
     wanted = Filter(text, TYPES)
     left = wanted.prune(known)
-    found = [place * ZONE + row for place in left for row, is_match in enumerate(wanted.mask(zones[place])) if is_match]
+    found = []
+    for place in left:
+        zone = rows[place * ZONE : (place + 1) * ZONE]
+        found += [row for row, is_match in zip(zone, wanted.mask(zones[place])) if is_match]
     print(f"{text}: {len(left)} zones read")
-    for row in found[:4]:
-        print("   ", rows[row][0], rows[row][1])
-    # All zones have no more.
-    assert len(found) == sum(sum(wanted.mask(zone)) for zone in zones)
+    for code, name, *_ in found:
+        print(f"    {code:04X} {name}")
+    assert found == store.execute(f"select * from characters where {text} order by code").fetchall()
