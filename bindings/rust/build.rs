@@ -19,9 +19,9 @@ fn link(folder: &Path, name: &str, made_by: &str) {
 fn folder() -> PathBuf {
     let package = Path::new(env!("CARGO_MANIFEST_DIR"));
     match std::env::var_os("DOQALLIN_LIB") {
-        Some(folder) => PathBuf::from(folder),
-        None if package.join("lib").is_dir() => package.join("lib"),
-        None => package.join("../out"),
+        Some(folder) if !folder.is_empty() => PathBuf::from(folder),
+        _ if package.join("lib").is_dir() => package.join("lib"),
+        _ => package.join("../out"),
     }
 }
 
