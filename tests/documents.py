@@ -233,6 +233,13 @@ def mean_of_values():
     return [len(ratios), round(math.exp(sum(map(math.log, ratios)) / len(ratios)), 2)]
 
 
+def times_of_searches():
+    """Returns the least and the greatest time of a search of a whole file, by mawk's, and what a search by the index takes."""
+    table = section("docs/MEASUREMENTS.md", "Searches beside mawk: `bench/search`")
+    times = [float(row) for row in re.findall(r"^\| .* \| .* = [\d.]+ \| ([\d.]+) \|", table, re.MULTILINE)]
+    return [min(times), max(times)], [float(re.search(r"That is ([\d.]+) % of", table)[1])]
+
+
 def flags_of_statistics():
     """Returns how many bytes of flags there are: a bound that is not there is not exact."""
     return sum(flags[2] <= flags[1] and flags[4] <= flags[3] for flags in itertools.product([0, 1], repeat=5))
@@ -300,12 +307,15 @@ def of_limits():
 def of_tests():
     """Sentences about tests and measurements, in the same form."""
     edits, (count, mean) = len(files("crates", ".edit")), mean_of_values()
+    whole, by_index = times_of_searches()
     tables = constant("tests/filters", "TABLES")
     each, zones = map(int, re.search(r"FILTERS, ZONES, ROWS, COLUMNS = (\d+), (\d+)", read("tests/filters")).groups())
     columns = read("tests/keys").partition("COLUMNS = [")[2].partition("\n]")[0].count("Column(")
     values = re.search(r'"DOQALLIN_COUNT", ([\d_]+)', read("bindings/python/test_doqallin.py"))[1]
     return [
         ("README.md", "Calls on values take {} of plain Rust's", [mean]),
+        ("README.md", "takes {} to {} of the time of `mawk`", whole),
+        ("docs/WHICH_TOOL.md", "{} % of the work", by_index),
         ("docs/MEASUREMENTS.md", "the geometric mean of the {} ratios is {}", [count, mean]),
         ("docs/PROVED.md", "{} wrong bodies, each", [edits]),
         ("docs/TESTING.md", "There are at most {}.", [edits]),
