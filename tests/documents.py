@@ -4,7 +4,7 @@ of CHECKS yields pairs: whether something is right, and what is wrong if not."""
 import glob, importlib.machinery, importlib.util, itertools, math, os, re, sys
 
 TOP = os.path.dirname(os.path.dirname(os.path.abspath(__file__)))
-DOCUMENTS = ["README.md", "CHANGELOG.md", "CONTRIBUTING.md", "bindings/README.md"]
+DOCUMENTS = ["README.md", "CHANGELOG.md", "CONTRIBUTING.md"]
 DOCUMENTS += sorted(os.path.relpath(path, TOP) for path in glob.glob(f"{TOP}/docs/*.md"))
 MOST_WORDS = {"all documents": 25_000, "docs/ARCHITECTURE.md": 2_400}
 # Names of what is no more, of upstream's, of the kit's and its command's, and of a caller's own.
@@ -152,9 +152,20 @@ def tables():
 
 
 def blocks():
-    """Each block of code in CALLING.md stands in the file that is named above it."""
-    for path, code in re.findall(r"`(crates/\S+)`\):\n\n```rust\n(.*?)```", read("docs/CALLING.md"), re.DOTALL):
-        yield code in read(path), f"docs/CALLING.md: the code is not in {path}: {code.strip().splitlines()[0]}"
+    """Each block of Rattle stands in the file that is named above it, and each of Rust in the tested text of the Rust crate."""
+    for path, code in re.findall(r"`(crates/\S+)`\):\n\n```rust\n(.*?)```", read("docs/RATTLE.md"), re.DOTALL):
+        yield code in read(path), f"docs/RATTLE.md: the code is not in {path}: {code.strip().splitlines()[0]}"
+    tested = re.sub(r"^//! ?", "", read("bindings/rust/src/lib.rs"), flags=re.MULTILINE)
+    for code in re.findall(r"^```rust\n(.*?)^```$", read("docs/RUST_AND_C.md"), re.DOTALL | re.MULTILINE):
+        yield code in tested, f"docs/RUST_AND_C.md: the code is not in lib.rs: {code.splitlines()[0]}"
+
+
+def kit_crates():
+    """The crates of the kit that are used are those that PROVED.md and no other page lists as trusted."""
+    lines = [re.sub(r"#.*|^[^:#]*:", "", line) for line in read("crates.txt").split("\n")]
+    used = {word for line in lines for word in line.split()} - set(uses())
+    trusted = read("docs/PROVED.md").partition("the kit's crates used:")[2].partition(".\n")[0]
+    yield used == set(re.findall(r"`(\w+)`", trusted)), f"docs/PROVED.md: the kit's crates that are used are {sorted(used)}"
 
 
 def uses():
@@ -222,6 +233,13 @@ def mean_of_values():
     return [len(ratios), round(math.exp(sum(map(math.log, ratios)) / len(ratios)), 2)]
 
 
+def times_of_searches():
+    """Returns the least and the greatest time of a search of a whole file, by mawk's, and what a search by the index takes."""
+    table = section("docs/MEASUREMENTS.md", "Searches beside mawk: `bench/search`")
+    times = [float(row) for row in re.findall(r"^\| .* \| .* = [\d.]+ \| ([\d.]+) \|", table, re.MULTILINE)]
+    return [min(times), max(times)], [float(re.search(r"That is ([\d.]+) % of", table)[1])]
+
+
 def flags_of_statistics():
     """Returns how many bytes of flags there are: a bound that is not there is not exact."""
     return sum(flags[2] <= flags[1] and flags[4] <= flags[3] for flags in itertools.product([0, 1], repeat=5))
@@ -232,7 +250,6 @@ def of_values():
     inline = constant("crates/vortex_dtype/src/buffer.rt", "INLINE_BYTES")
     variants = read("crates/vortex_dtype/src/error.rt").partition("pub enum VortexError {")[2].partition("\n}")[0]
     variants = count_of(variants, r"^    [A-Z]\w+")
-    shown = constant("crates/vortex_value/src/display/leaves.rt", "SHOWN")
     sizes = numbers_in(read("crates/scalar_tests/src/sizes.rt"), r"size_of::<([\w<>]+?)>\(\) == (\d+)")
     sizes = [sizes[name] for name in ["Option<ScalarValue>", "ScalarValue", "ByteBuffer"]]
     optional = len(set(re.findall(r"fn (as_\w+_opt)", read("crates/vortex_views/src/downcast.rt"))))
@@ -240,21 +257,19 @@ def of_values():
     unsafes = count_of(sources(*uses()), r"\bunsafe \{")
     digits = int(re.search(r"precision > (\d+)", read("crates/logical_types/src/logical.rt"))[1])
     return [
-        ("README.md", "the crates {} blocks, of proved UTF-8", [unsafes]),
-        ("docs/CLAIMS.md", "For the {} `unsafe` blocks", [unsafes]),
+        ("docs/PROVED.md", "The crates' {} `unsafe` blocks", [unsafes]),
         ("docs/CLAIMS.md", "{} public calls have no clause", [bare]),
         ("docs/CLAIMS.md", "and the {} crates of calls", [sum(crate.endswith("_calls") for crate in uses())]),
-        ("docs/CALLING.md", "At most {} bytes are held inside a buffer", [inline]),
+        ("docs/RATTLE.md", "At most {} bytes are held inside a buffer", [inline]),
         ("docs/DECISIONS.md", "A buffer holds at most {} bytes", [inline]),
         ("docs/DIFFERENCES.md", "at most {} bytes are held inline", [inline]),
-        ("docs/CALLING.md", "`VortexError` has {} variants", [variants]),
+        ("docs/RATTLE.md", "`VortexError` has {} variants", [variants]),
         ("docs/DIFFERENCES.md", "{} named refusals", [variants]),
-        ("docs/CALLING.md", "The {} `.._opt` require", [optional]),
+        ("docs/RATTLE.md", "The {} `.._opt` require", [optional]),
         ("docs/DECISIONS.md", "an optional value takes {} bytes, a `ScalarValue` {} and a buffer {}", sizes),
         ("docs/DECISIONS.md", "A decimal has at most {} digits", [digits]),
         ("docs/DECISIONS.md", "Each of the {} types of decimals", [sum(precision + 1 for precision in range(1, digits + 1))]),
         ("CHANGELOG.md", "decimals to {} digits", [digits]),
-        ("docs/DEFINITIONS.md", "more than {} characters the first {}, `..`, and the last {}", [2 * shown, shown, shown]),
         ("docs/STATISTICS.md", "byte 1 has one of {} values", [flags_of_statistics()]),
     ]
 
@@ -273,7 +288,7 @@ def of_limits():
         ("CHANGELOG.md", "with the statuses 7 to {}", [max(statuses.values())]),
         ("CHANGELOG.md", "nests more than {} deep answers `TooDeep`", [lines]),
         ("CONTRIBUTING.md", "some {} lines", [round(rows, -2)]),
-        ("bindings/README.md", "if more than {} brackets nest", [lines]),
+        ("docs/PYTHON.md", "if more than {} brackets nest", [lines]),
         ("docs/ARCHITECTURE.md", "{} crates use lemmas of `proofs/` below", [users_of_proofs()]),
         ("docs/DECISIONS.md", "A line nests at most {} deep", [lines]),
         ("docs/DECISIONS.md", "takes up to {} kilobytes of stack", [max(map(float, stacks))]),
@@ -292,14 +307,17 @@ def of_limits():
 def of_tests():
     """Sentences about tests and measurements, in the same form."""
     edits, (count, mean) = len(files("crates", ".edit")), mean_of_values()
+    whole, by_index = times_of_searches()
     tables = constant("tests/filters", "TABLES")
     each, zones = map(int, re.search(r"FILTERS, ZONES, ROWS, COLUMNS = (\d+), (\d+)", read("tests/filters")).groups())
     columns = read("tests/keys").partition("COLUMNS = [")[2].partition("\n]")[0].count("Column(")
     values = re.search(r'"DOQALLIN_COUNT", ([\d_]+)', read("bindings/python/test_doqallin.py"))[1]
     return [
         ("README.md", "Calls on values take {} of plain Rust's", [mean]),
+        ("README.md", "takes {} to {} of the time of `mawk`", whole),
+        ("docs/WHICH_TOOL.md", "{} % of the work", by_index),
         ("docs/MEASUREMENTS.md", "the geometric mean of the {} ratios is {}", [count, mean]),
-        ("docs/CLAIMS.md", "show, for {} wrong bodies", [edits]),
+        ("docs/PROVED.md", "{} wrong bodies, each", [edits]),
         ("docs/TESTING.md", "There are at most {}.", [edits]),
         ("docs/TESTING.md", "that {} random rows in each of {} columns", [constant("tests/keys", "ROWS"), columns]),
         ("docs/TESTING.md", "for {} random filters over {} tables", [tables * each, tables]),
@@ -382,5 +400,5 @@ def lengths():
         yield counts[page] <= most, f"{page}: {counts[page]} words, of at most {most}"
 
 
-CHECKS = [names, calls, links, printed_claims, tables, blocks, crates, numbers, quotients]
+CHECKS = [names, calls, links, printed_claims, tables, blocks, kit_crates, crates, numbers, quotients]
 CHECKS += [first_bytes, filter_bytes, examples, versions, lengths]

@@ -266,7 +266,7 @@ def told(code: str, folder: str) -> str:
 
 def load_tests(loader: unittest.TestLoader, tests: unittest.TestSuite, pattern: str | None) -> unittest.TestSuite:
     tests.addTests(doctest.DocTestSuite(doqallin))
-    tests.addTests(doctest.DocFileSuite("../README.md", encoding="utf-8"))
+    tests.addTests(doctest.DocFileSuite("../../docs/PYTHON.md", encoding="utf-8"))
     return tests
 
 
