@@ -11,7 +11,7 @@ MOST_WORDS = {"all documents": 25_000, "docs/ARCHITECTURE.md": 2_400}
 ELSEWHERE = set(
     """vortex_ VORTEX_ vortex DOQALLIN_NO_ROOM NO_ROOM filter_form place line_zones lines find show
     CoercePValue struct_unchecked unwrap_or_else tidy plant only incremental Proof
-    my_crate new1 Ibindings Lbindings WHAT_GOES_WRONG""".split()
+    my_crate new1 price stock Ibindings Lbindings WHAT_GOES_WRONG""".split()
 )
 SMALL = "zero one two three four five six seven eight nine ten eleven twelve thirteen fourteen fifteen sixteen".split()
 NUMBERS = {**{word: at for at, word in enumerate(SMALL)}, "forty": 40, "a thousand": 1000}
@@ -297,7 +297,7 @@ def of_limits():
         ("docs/FILTERS.md", "- and at most {} connectives and parentheses nest", [nested]),
         ("docs/FILTERS.md", "a chain has at most {} parts", [nested + 1]),
         ("docs/FILTERS.md", "{} if the filter can be False, plus {} if it can be Unknown, plus {} if", bits),
-        ("docs/FILTERS.md", "from Rust and Python {}, if nothing is said", [constant("bindings/rust/src/filter.rs", "DEPTH")]),
+        ("docs/FILTERS.md", "Rust and Python use {} unless you pass one", [constant("bindings/rust/src/filter.rs", "DEPTH")]),
         ("docs/SEARCHES.md", "for each zone of {} records", [int(records)]),
         ("docs/SEARCHES.md", "strings cut to {} bytes", [int(cut)]),
         ("docs/SEARCHES.md", "{} says that the input is above a megabyte and {} that there was no answer; {} says", [*map(int, ends)]),
@@ -319,6 +319,7 @@ def of_tests():
         ("docs/MEASUREMENTS.md", "the geometric mean of the {} ratios is {}", [count, mean]),
         ("docs/PROVED.md", "{} wrong bodies, each", [edits]),
         ("docs/TESTING.md", "There are at most {}.", [edits]),
+        ("docs/MEASUREMENTS.md", "edits (now {})", [edits]),
         ("docs/TESTING.md", "that {} random rows in each of {} columns", [constant("tests/keys", "ROWS"), columns]),
         ("docs/TESTING.md", "for {} random filters over {} tables", [tables * each, tables]),
         ("docs/TESTING.md", "for {} random zones", [tables * each * zones]),
