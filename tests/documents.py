@@ -164,7 +164,7 @@ def kit_crates():
     """The crates of the kit that are used are those that PROVED.md and no other page lists as trusted."""
     lines = [re.sub(r"#.*|^[^:#]*:", "", line) for line in read("crates.txt").split("\n")]
     used = {word for line in lines for word in line.split()} - set(uses())
-    trusted = read("docs/PROVED.md").partition("the kit's crates used:")[2].partition(".\n")[0]
+    trusted = read("docs/PROVED.md").partition("the kit's crates that are used here:")[2].partition(".\n")[0]
     yield used == set(re.findall(r"`(\w+)`", trusted)), f"docs/PROVED.md: the kit's crates that are used are {sorted(used)}"
 
 
