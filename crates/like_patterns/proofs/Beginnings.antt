@@ -1,7 +1,7 @@
 -- What stands before a pattern's first wildcard, and what a pattern is whose only wildcard is a `%` at its end, or that has none.
-use Rattle.std.proofs.Common.{◌≡◌, ℕ, ◌<◌, Bool, true, false, not, ◌&&◌, ltb, List, [], ◌∷◌, ◌++◌, length, refl, sym, ap, ◌∙◌, subst, append-nil, arith, ltb-true}
+use Rattle.std.proofs.Common.{◌≡◌, ℕ, ◌<◌, true, false, ltb, List, [], ◌∷◌, ◌++◌, length, refl, sym, ap, ◌∙◌, append-nil, arith, ltb-true}
 use Rattle.std.proofs.lemmas.Bool.{and_parts, false≢true}
-use Rattle.std.proofs.lemmas.Str.{IsUtf8-string_bytes, chars-nil, encodes-chars}
+use Rattle.std.proofs.lemmas.Str.{IsUtf8-string_bytes, encodes-chars}
 use Rattle.std.specs.Str.{IsUtf8, chars, encode_utf8_all}
 use Rattle.std.specs.String.{string_bytes}
 use Rattle.like_patterns.specs.declared.case.Case.TheVariants.{Sensitive}
@@ -9,7 +9,7 @@ use Rattle.like_patterns.specs.declared.pieces.Fixed.TheVariants as fixed
 use Rattle.like_patterns.specs.declared.pieces.Piece.{Piece}
 use Rattle.like_patterns.specs.declared.pieces.Piece.TheVariants as pieces
 use Rattle.like_patterns.specs.Patterns.{Part, any_character, any_string, leading, literal}
-use Rattle.like_patterns.specs.Pieces.{are_in_runs, literals, parts_of, piece_parts}
+use Rattle.like_patterns.specs.Pieces.{are_in_runs, literals, parts_of}
 
 leading-literals : (cs : List ℕ) (more : List Part) → leading (literals cs ++ more) ≡ cs ++ leading more
 leading-literals [] more = refl

@@ -1,9 +1,9 @@
 -- The first place of some characters in a text, and that no earlier one is missed.
-use Rattle.std.proofs.Common.{◌≡◌, ℕ, suc, ◌+◌, ◌-◌, ◌<◌, ◌≤◌, ◌⊎◌, inl, inr, Bool, true, false, List, [], ◌∷◌, ◌++◌, length, take, drop, get_or, None, Some, refl, sym, ap, ◌∙◌, subst, append_assoc, append-nil, length-append, length-drop, add-zero, arith, take-append-drop}
+use Rattle.std.proofs.Common.{◌≡◌, ℕ, ◌+◌, ◌-◌, ◌<◌, ◌≤◌, ◌⊎◌, inl, inr, true, false, List, [], ◌∷◌, ◌++◌, length, take, drop, get_or, None, Some, refl, sym, ap, ◌∙◌, subst, append_assoc, length-append, add-zero, arith, take-append-drop}
 use Rattle.std.proofs.lemmas.Bool.{and_from, and_parts, cases_lt, false_from_ne_true}
 use Rattle.std.proofs.lemmas.List.{append_cancel_right, drop_at, length-take-le, take_rest}
 use Rattle.std.proofs.lemmas.List.Prefix.{at_from_reads, at_reads}
-use Rattle.std.proofs.lemmas.Str.{IsCharBoundary-start, IsUtf8-append, IsUtf8-drop, IsUtf8-take, chars-append, chars-encodes, encodes-append, encodes-chars, scalars-chars}
+use Rattle.std.proofs.lemmas.Str.{IsCharBoundary-start, IsUtf8-drop, IsUtf8-take, chars-append, chars-encodes, encodes-append, encodes-chars, scalars-chars}
 use Rattle.std.specs.Str.{IsCharBoundary, IsUtf8, all_scalars, chars, encode_utf8_all}
 use Rattle.memchr.specs.Find.{FindsNeedle, Nowhere, OccursAt}
 use Rattle.like_patterns.specs.declared.case.Case.{Case}

@@ -3,9 +3,9 @@ use Rattle.std.proofs.Common.{◌≡◌, ℕ, Bool, true, false, cond, ◌||◌,
 use Rattle.std.proofs.lemmas.Bool.{and_parts, cond-false, eqb-true, false≢true, or_parts}
 use Rattle.std.specs.Option.{option_map}
 use Rattle.like_patterns.specs.Laws.{ExactMatch, MatchesBegin, PlainTextsComeBack, PrefixMatches, TextsComeBack}
-use Rattle.like_patterns.specs.Patterns.{Part, literal, any_character, any_string, leading, matches}
+use Rattle.like_patterns.specs.Patterns.{Part, literal, any_character, any_string, matches}
 use Rattle.like_patterns.specs.Pieces.{literals}
-use Rattle.like_patterns.specs.Texts.{has_special, is_escape, is_special, part_of, part_text, parts_from, pattern_of, pattern_text}
+use Rattle.like_patterns.specs.Texts.{has_special, is_escape, is_special, part_of, parts_from, pattern_text}
 use Rattle.like_patterns.proofs.Splitting.{Split-from, any_alone, literals_match, matches-append, matches-literals}
 
 pub matches_begin : MatchesBegin

@@ -1,8 +1,8 @@
 -- A pattern's text is read character by character.
-use Rattle.std.proofs.Common.{◌≡◌, ℕ, ◌<◌, ◌≤◌, ◌+◌, ◌-◌, Bool, true, false, cond, not, ◌&&◌, eqb, ltb, List, [], ◌∷◌, ◌++◌, length, drop, map, Option, Some, None, refl, sym, ap, ◌∙◌, subst, append_assoc, append-nil, length-append, arith}
+use Rattle.std.proofs.Common.{◌≡◌, ℕ, ◌<◌, ◌≤◌, ◌-◌, Bool, true, false, cond, not, ◌&&◌, eqb, ltb, List, [], ◌∷◌, ◌++◌, length, drop, Option, Some, None, refl, sym, ap, ◌∙◌, subst, append_assoc, append-nil, length-append, arith}
 use Rattle.std.proofs.lemmas.Bool.{and_from, and_parts, cond-false, cond-true, lt-ltb, ne_eqb}
 use Rattle.std.proofs.lemmas.List.{drop_at, map-append}
-use Rattle.std.proofs.lemmas.Str.{IsUtf8-encode, IsUtf8-string_bytes, chars-append, chars-nil, chars_past_char, encodes-append, encodes-chars, length-encode}
+use Rattle.std.proofs.lemmas.Str.{IsUtf8-encode, chars-append, chars-nil, chars_past_char, encodes-append, encodes-chars, length-encode}
 use Rattle.std.specs.Char.{IsScalar, encode_utf8, len_utf8}
 use Rattle.std.specs.Option.{option_map}
 use Rattle.std.specs.Str.{IsUtf8, chars, encode_utf8_all}
@@ -18,7 +18,7 @@ use Rattle.like_patterns.specs.declared.reading.Reader.{Reader}
 use Rattle.like_patterns.specs.declared.text.Text.{Text}
 use Rattle.like_patterns.specs.Patterns.{Part, literal, any_character, any_string}
 use Rattle.like_patterns.specs.Pieces.{are_in_runs, ends_in_text, literals, parts_of, piece_parts}
-use Rattle.like_patterns.specs.Reading.{Goes, IsOpen, IsWildcard, Reads, parts_behind, reader_parts}
+use Rattle.like_patterns.specs.Reading.{Goes, IsOpen, IsWildcard, Reads, reader_parts}
 use Rattle.like_patterns.specs.Texts.{EndsInEscape, is_escape, part_of, parts_from, pattern_of}
 use Rattle.like_patterns.proofs.Stripping.{parts_of-push}
 

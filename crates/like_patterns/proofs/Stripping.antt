@@ -1,9 +1,8 @@
 -- What stripping a text, at its front or its end, leaves to be matched.
-use Rattle.std.proofs.Common.{Bor, IfSome, MatchOption, None, Option, Some, ◌≡◌, ◌-◌, drop, get_or, take, ℕ, suc, ◌+◌, ◌<◌, ◌≤◌, Bool, true, false, List, [], ◌∷◌, ◌++◌, length, refl, sym, ap, ◌∙◌, subst, append_assoc, append-nil, length-append, eqb, arith}
+use Rattle.std.proofs.Common.{Bor, IfSome, MatchOption, None, Option, Some, ◌≡◌, drop, get_or, ℕ, ◌+◌, ◌<◌, ◌≤◌, Bool, true, false, List, [], ◌∷◌, ◌++◌, length, refl, sym, ap, ◌∙◌, subst, append_assoc, append-nil, length-append, eqb, arith}
 use Rattle.std.proofs.lemmas.Bool.{false_from_ne_true, eqb-true, eq-eqb}
 use Rattle.std.proofs.lemmas.Str.{IsUtf8-encode, chars-append, chars-nil, chars_past_char, encodes-append, encodes-chars}
 use Rattle.std.specs.Char.{encode_utf8}
-use Rattle.std.specs.List.{flat_map}
 use Rattle.std.specs.Str.{IsUtf8, chars, encode_utf8_all}
 use Rattle.std.specs.String.{string_bytes}
 use Rattle.like_patterns.specs.declared.case.Case.{Case}
@@ -15,7 +14,7 @@ use Rattle.like_patterns.specs.Characters.{Begins, BeginsOtherwise, BeginsWithOn
 use Rattle.like_patterns.specs.Patterns.{Part, any_character, any_string, matches}
 use Rattle.like_patterns.specs.Pieces.{FailsAtEnd, FailsAtFront, StopsAtAny, StripsEnd, StripsFront, StripsTo, fixed_parts, is_fixed, literals, matches_inside, parts_of, piece_parts}
 use Rattle.like_patterns.proofs.Letters.{IsUtf8-compared, compared-append, compared-nil, compared_one, length-compared, utf8_before_compared, utf8_behind_compared}
-use Rattle.like_patterns.proofs.Splitting.{Split-from, any_alone, any_any, any_character_first, fails_at_end, is_fixed-append, is_fixed-literals, length-fixed, literals_match, matches-append, matches-literals, matches_before, matches_behind, no_character, none_matches, one_character, same_tests}
+use Rattle.like_patterns.proofs.Splitting.{Split-from, any_alone, any_any, any_character_first, fails_at_end, is_fixed-append, is_fixed-literals, length-fixed, literals_match, matches-append, matches-literals, matches_before, matches_behind, no_character, one_character, same_tests}
 
 -- ---- characters that stand for themselves
 

@@ -1,11 +1,9 @@
 -- The pieces of a pattern, and what is left of a text when they are stripped off it.
-use Rattle.std.specs.Prelude.{◌≡◌, ℕ, ⊤, Bool, true, false, not, ◌&&◌, ◌<◌, nat_lt, List, [], ◌∷◌, ◌++◌, map, length}
+use Rattle.std.specs.Prelude.{◌≡◌, ℕ, ⊤, Bool, true, false, not, ◌&&◌, nat_lt, List, [], ◌∷◌, ◌++◌, map, length}
 use Rattle.std.specs.List.{flat_map}
-use Rattle.std.specs.Str.{IsUtf8, chars}
+use Rattle.std.specs.Str.{chars}
 use Rattle.std.specs.String.{string_bytes}
 use Rattle.like_patterns.specs.declared.case.Case.{Case}
-use Rattle.like_patterns.specs.declared.case.Case.TheVariants.{Sensitive}
-use Rattle.like_patterns.specs.declared.text.Text.{Text}
 use Rattle.like_patterns.specs.declared.pieces.Fixed.{Fixed}
 use Rattle.like_patterns.specs.declared.pieces.Fixed.TheVariants as fixed
 use Rattle.like_patterns.specs.declared.pieces.Piece.{Piece}

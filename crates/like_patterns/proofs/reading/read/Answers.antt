@@ -4,7 +4,6 @@ use Rattle.std.proofs.lemmas.Iterator.{YieldsList-from_chars}
 use Rattle.std.proofs.lemmas.Iterator.Consumers.{YieldsList-end}
 use Rattle.std.proofs.lemmas.List.{map-id}
 use Rattle.std.specs.Char.{len_utf8}
-use Rattle.std.specs.Str.{chars}
 use Rattle.like_patterns.specs.Texts.{EndsInEscape}
 use Rattle.like_patterns.proofs.ReadSteps.{escape_ends, escape_fits, only_memory, reads_all, reads_end, reads_none}
 use Rattle.like_patterns.proofs.reading.read.Goals as goal

@@ -1,5 +1,5 @@
 -- As it is compared, and as it is.
-use Rattle.std.proofs.Common.{ℕ, List, ◌∙◌, ap, sym}
+use Rattle.std.proofs.Common.{ℕ, List, ◌∙◌, ap}
 use Rattle.std.specs.Str.{chars}
 use Rattle.like_patterns.specs.declared.case.Case.TheVariants.{Sensitive}
 use Rattle.like_patterns.specs.Patterns.{Part, is_like}

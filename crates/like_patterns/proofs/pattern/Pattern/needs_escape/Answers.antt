@@ -1,7 +1,6 @@
 -- A piece that has one, a piece that has none, and no more pieces.
-use Rattle.std.proofs.Common.{◌≡◌, ◌∙◌, List, ap, arith, sym}
+use Rattle.std.proofs.Common.{◌∙◌, ap, sym}
 use Rattle.like_patterns.specs.declared.case.Case.TheVariants.{Sensitive}
-use Rattle.like_patterns.specs.Patterns.{Part}
 use Rattle.like_patterns.specs.Pieces.{parts_of}
 use Rattle.like_patterns.specs.Texts.{has_special}
 use Rattle.like_patterns.proofs.Escaping.{special_behind, special_here, special_none}

@@ -1,5 +1,5 @@
 -- No characters, or some behind the pieces.
-use Rattle.std.proofs.Common.{◌≡◌, ◌<◌, ℕ, List, [], true, false, length, arith, sym, subst, ◌∙◌}
+use Rattle.std.proofs.Common.{◌≡◌, ◌<◌, List, [], true, false, length, arith, sym, subst, ◌∙◌}
 use Rattle.std.proofs.lemmas.Bool.{eqb-false, eqb-true}
 use Rattle.std.specs.String.{string_bytes, string_len}
 use Rattle.like_patterns.specs.declared.case.Case.TheVariants.{Sensitive}

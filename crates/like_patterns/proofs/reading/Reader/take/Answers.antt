@@ -1,5 +1,5 @@
 -- A character that is escaped, the escape, and another.
-use Rattle.std.proofs.Common.{◌≡◌, ◌≢◌, ◌∷◌, [], ◌++◌, Bool, List, false, arith, ap, sym, ◌∙◌}
+use Rattle.std.proofs.Common.{◌≢◌, ◌∷◌, Bool, List, false, arith, ap, sym, ◌∙◌}
 use Rattle.std.proofs.lemmas.Str.{IsUtf8-string_bytes}
 use Rattle.std.specs.String.{string_bytes}
 use Rattle.like_patterns.specs.declared.case.Case.TheVariants.{Sensitive}
