@@ -1,0 +1,13 @@
+mod Splitting
+mod Letters
+mod TextCuts
+mod OneCharacter
+mod InsensitiveSearch
+mod Stripping
+mod Finding
+mod ReadSteps
+mod Writing
+mod Escaping
+mod Comparing
+mod Beginnings
+mod PatternLaws

@@ -1,0 +1,10 @@
+-- All that was passed is inside of the last character.
+use Rattle.std.proofs.Common.{length}
+use Rattle.like_patterns.proofs.OneCharacter.{Backed}
+use Rattle.like_patterns.proofs.characters.before_character.Given as goal
+
+abbrev pub invariant-loop-rest : goal.invariant-loop-rest
+invariant-loop-rest l = Backed l.text l.rest
+
+abbrev pub decreases-loop-rest : goal.decreases-loop-rest
+decreases-loop-rest l = length l.rest

@@ -1,0 +1,10 @@
+use Rattle.std.proofs.Common.{take}
+use Rattle.std.specs.Fmt.{HasWritten, IsPlainFormatter}
+use Rattle.std.specs.Str.{encode_utf8_all}
+use Rattle.like_patterns.specs.declared.case.Case.TheVariants.{Sensitive}
+use Rattle.like_patterns.specs.Pieces.{parts_of}
+use Rattle.like_patterns.specs.Texts.{pattern_text}
+use Rattle.like_patterns.proofs.pattern.PatternDisplay.fmt.Given as goal
+
+abbrev pub invariant-loop-piece : goal.invariant-loop-piece
+invariant-loop-piece g l = IsPlainFormatter l.fn.f → HasWritten g.W.Write.write_str_gives l.fn.f (encode_utf8_all (pattern_text (parts_of Sensitive (take l.piece-index l.piece-items)))) l.f
