@@ -1,0 +1,4 @@
+pub mod Bits
+pub mod Contained
+pub mod Rates
+pub mod Stripes
