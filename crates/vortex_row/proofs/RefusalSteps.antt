@@ -1,5 +1,5 @@
 -- Steps of refusals, up the type: of a whole by that of a part, if the others have values or have none.
-use Rattle.std.proofs.Common.{◌≡◌, ◌≢◌, ℕ, ◌<◌, true, false, true≢false, List, [], ◌∷◌, ◌++◌, drop, Option, Some as Present, refl, sym, subst, ap, ◌∙◌}
+use Rattle.std.proofs.Common.{◌≡◌, ◌≢◌, ℕ, ◌<◌, true, false, true≢false, List, [], ◌∷◌, Option, Some as Present, refl, sym, subst, ◌∙◌}
 use Rattle.std.specs.Prelude.{Bool, Err, IsErr, Ok, Result}
 use Rattle.std.specs.Result.{IsErrAnd}
 use Rattle.vortex_dtype.specs.TypeTree.{TypeTree, TypeTrees, extension_type, integer_type, no_types, type_then, union_type, IsNullable, is_nullable}
@@ -8,11 +8,10 @@ use Rattle.vortex_dtype.specs.declared.nullability.Nullability.TheVariants.{NonN
 use Rattle.vortex_dtype.specs.declared.ptype.PType.{PType}
 use Rattle.vortex_value.specs.Validity.{FieldsValid, Valid, type_with}
 use Rattle.vortex_value.specs.Values.Content.{contents}
-use Rattle.vortex_value.specs.Values.RawOf.{raw_of}
 use Rattle.vortex_value.specs.Values.RawTree.{RawTree, RawTrees, no_raws, raw_then}
 use Rattle.vortex_value.specs.declared.values.ScalarValue.{ScalarValue}
 use Rattle.vortex_row.specs.Keys.{keys}
-use Rattle.vortex_row.specs.Reading.{GoesBack, GoesBackIn, HasChild, HasOne, HasPlain, HasRead, HavePlain, IsChild, ArePlain, IsKey, IsPresent, IsStuck, Puts, PutsOne, ReadsOne, Refuses, Tells, bad_or_none, of_whole}
+use Rattle.vortex_row.specs.Reading.{GoesBack, GoesBackIn, HasChild, HasOne, HasPlain, HasRead, HavePlain, IsChild, ArePlain, IsKey, IsPresent, IsStuck, PutsOne, ReadsOne, Refuses, Tells, bad_or_none, of_whole}
 use Rattle.vortex_row.specs.declared.reader.KeyDecodeError.{KeyDecodeError}
 use Rattle.vortex_row.specs.declared.reader.KeyDecodeError.TheVariants.{Bad, NoMemory}
 use Rattle.vortex_row.specs.declared.reader.ValueError.{ValueError}
@@ -91,13 +90,13 @@ optional-stuck One (Key f) e start now later h goes bad = subst (λ xs. IsStuck 
 -- a null may come in place of what does not
 pub null-refused : (t : TypeTree) (nullable : Bool) (present : ValueError) (e : KeyDecodeError) (start now later : List ℕ) → nullable ≡ is_nullable t → nullable ≡ true → (IsNullable t → (bs : List ℕ) → start ≢ 1 ∷ bs)
     → Refuses (IsPresent t) present start now → GoesBack start present e now later → Refuses (Valid t) (Key e) start later
-null-refused t nullable present e start now later is yes other h goes =
-    λ bad. (null-there t nullable is yes, present-stuck t start start later refl other (optional-stuck (IsPresent t) present e start now later h goes bad))
+null-refused t nullable present e start now later is takes other h goes =
+    λ bad. (null-there t nullable is takes, present-stuck t start start later refl other (optional-stuck (IsPresent t) present e start now later h goes bad))
 
 pub present-refused : (t : TypeTree) (nullable : Bool) (present : ValueError) (start now : List ℕ) → nullable ≡ is_nullable t → nullable ≡ false → (IsNullable t → (bs : List ℕ) → start ≢ 1 ∷ bs)
     → Refuses (IsPresent t) present start now → Refuses (Valid t) present start now
-present-refused t nullable NoValue start now is no other h = λ p. h (present-of t (sym is ∙ no) p.0 p.1)
-present-refused t nullable (Key f) start now is no other h = λ bad.
+present-refused t nullable NoValue start now is lacks other h = λ p. h (present-of t (sym is ∙ lacks) p.0 p.1)
+present-refused t nullable (Key f) start now is lacks other h = λ bad.
     let (has, stuck) = h bad in
     ((has.0, record { kind = has.1.kind.valid; held = has.1.held; untyped = has.1.untyped }), present-stuck t start start now refl other stuck)
 
@@ -205,9 +204,3 @@ module _ (ids : List ℕ) (ts : TypeTrees) where
             (opens-stuck Tagged 24 (IsChild ids ts) old mid now (tagged-opens ids ts) first one
             (stuck-later (id ∷ []) (IsChild ids ts) (IsKey (Valid t)) mid here now (continue-child id ids ts t small has) next (some-key (Valid t) (h bad).0) (h bad).1)),
       ))
-
--- ---- parts that are put to the others
-
-pub puts-optional : (One : RawTree → Type 0) (part : ValueError) (e : KeyDecodeError) (parts more : List (Option ScalarValue)) (start now later : List ℕ) → Refuses One part start now → GoesBack start part e now later
-    → Puts One (Err e) parts more start later
-puts-optional One part e parts more start now later h goes = optional-stuck One part e start now later h goes

@@ -1,7 +1,6 @@
 -- Steps of the reading of a row, column by column.
-use Rattle.std.proofs.Common.{◌≡◌, ◌≢◌, ℕ, zero, suc, ◌+◌, ◌<◌, ◌≤◌, inl, inr, true≢false, List, [], ◌∷◌, ◌++◌, length, length-append, length-drop, map, drop, get_or, drop-cons, refl, sym, subst, ap, ap₂, ◌∙◌, append_assoc, append-nil, arith}
-use Rattle.std.specs.Prelude.{Result, Ok, Err, IsErr, MatchResult, Vec}
-use Rattle.std.specs.Result.{IsErrAnd}
+use Rattle.std.proofs.Common.{◌≡◌, ◌≢◌, ℕ, zero, suc, ◌+◌, ◌<◌, ◌≤◌, inl, inr, List, [], ◌∷◌, ◌++◌, length, length-append, length-drop, map, drop, get_or, drop-cons, refl, sym, subst, ap, ap₂, ◌∙◌, append_assoc, append-nil, arith}
+use Rattle.std.specs.Prelude.{Result, Ok, Err, MatchResult, Vec}
 use Rattle.std.specs.Global.{Global}
 use Rattle.std.proofs.Math.Seq.{drop-nil}
 use Rattle.vortex_dtype.specs.TypeOf.{dtype_trees, type_of}
@@ -16,7 +15,7 @@ use Rattle.vortex_value.specs.Values.Scalars.{scalar_content, scalar_raw, scalar
 use Rattle.vortex_value.specs.declared.scalars.Scalar.{Scalar}
 use Rattle.vortex_row.specs.Columns.{key_with, row_key}
 use Rattle.vortex_row.specs.Decoded.{AreMadeOf, AreOfTypes, AreValuesOf, BeginsWithRow, DecodesRowTo, IsDecodedRow, IsFirstBad, IsRowKeyOf, values_key}
-use Rattle.vortex_row.specs.ColumnReading.{AreColumnKeys, ArePlainOf, AreScalars, HasColumn, HasColumnAt, HasRow, IsColumnKey, IsRefusal, IsRefusalAt, scalars_key}
+use Rattle.vortex_row.specs.ColumnReading.{IsOfRow, AreColumnKeys, ArePlainOf, AreScalars, HasColumn, HasColumnAt, HasRow, IsColumnKey, IsRefusal, IsRefusalAt, scalars_key}
 use Rattle.vortex_row.specs.Reading.{ArePlain, ContinueWith, HavePlain, IsPlain, IsStuck}
 use Rattle.vortex_row.specs.declared.error.RowError.{RowError}
 use Rattle.vortex_row.specs.declared.error.RowError.TheVariants.{BadKey, OutOfMemory}
@@ -97,14 +96,14 @@ pub record ColumnsSoFar (os : List SortOptions) (ts : TypeTrees) (xs : List Scal
   pub split : bytes ≡ front ++ drop taken bytes
   pub count : taken ≡ length front
   pub go : ContinueWith front (AreColumnKeys os ts) (AreColumnKeys more types)
-  pub has : HaveRow types
+  pub has : HavePlain (FieldsValid ts) → HaveRow types
   pub read : (ys : List Scalar) → AreScalars types ys → AreScalars ts (xs ++ ys) × (front ++ scalars_key more ys ≡ scalars_key os (xs ++ ys))
 
-pub columns-none : (os : List SortOptions) (ts : TypeTrees) (bytes : List ℕ) → HavePlain (FieldsValid ts) → ColumnsSoFar os ts [] bytes os ts 0
-columns-none os ts bytes some = record { front = []; split = refl; count = refl; go = continue-itself (AreColumnKeys os ts); has = fields-row ts some; read = λ ys h. (h, refl) }
+pub columns-none : (os : List SortOptions) (ts : TypeTrees) (bytes : List ℕ) → ColumnsSoFar os ts [] bytes os ts 0
+columns-none os ts bytes = record { front = []; split = refl; count = refl; go = continue-itself (AreColumnKeys os ts); has = fields-row ts; read = λ ys h. (h, refl) }
 
-pub columns-start : (os : List SortOptions) (ts : TypeTrees) (xs : List Scalar) (bytes : List ℕ) → HavePlain (FieldsValid ts) → xs ≡ [] → ColumnsSoFar os ts xs bytes os ts 0
-columns-start os ts xs bytes some e = subst (λ ys. ColumnsSoFar os ts ys bytes os ts 0) (sym e) (columns-none os ts bytes some)
+pub columns-start : (os : List SortOptions) (ts : TypeTrees) (xs : List Scalar) (bytes : List ℕ) → xs ≡ [] → ColumnsSoFar os ts xs bytes os ts 0
+columns-start os ts xs bytes e = subst (λ ys. ColumnsSoFar os ts ys bytes os ts 0) (sym e) (columns-none os ts bytes)
 
 pub same-option : (i : ℕ) (os : List SortOptions) (d : SortOptions) → i < length os → get_or os i d ≡ get_or os i (get_or os i d)
 same-option i [] d h = absurd (omega arith)
@@ -130,7 +129,7 @@ columns-step os ts xs ys x bytes o more t types taken n so typed h e =
       split = so.split ∙ ap (λ bs. so.front ++ bs) (h.is ∙ ap (λ bs. k ++ bs) (drop-more taken n bytes)) ∙ sym (append_assoc so.front k (drop (taken + n) bytes));
       count = let c = so.count in let d = h.count in let l = length-append so.front k in omega arith;
       go = continue-then so.front k (AreColumnKeys os ts) (AreColumnKeys (o ∷ more) (type_then t types)) (AreColumnKeys more types) so.go (continue-column o more t types (scalar_raw x) h.plain);
-      has = later-row t types so.has;
+      has = λ all. later-row t types (so.has all);
       read = λ zs all.
           let r = so.read (x ∷ zs) ((typed, h.plain), all) in
           let same : xs ++ x ∷ zs ≡ ys ++ zs = sym (append_assoc xs (x ∷ []) zs) ∙ ap (λ ws. ws ++ zs) (sym e) in
@@ -156,28 +155,36 @@ columns-more os ts i xs ys x bytes o t taken next less in_options type_is option
     (columns-step os (dtype_trees ts) xs ys x bytes o (drop (i + 1) os) (type_of t) (dtype_trees (drop (i + 1) ts)) taken h.width there h.typed h.column e)
 
 column-stops : (os : List SortOptions) (ts : TypeTrees) (xs : List Scalar) (bytes : List ℕ) (o : SortOptions) (more : List SortOptions) (t : TypeTree) (types : TypeTrees) (taken : ℕ) (now : List ℕ)
-    → ColumnsSoFar os ts xs bytes (o ∷ more) (type_then t types) taken → IsStuck (IsColumnKey o t) (drop taken bytes) now → IsStuck (AreColumnKeys os ts) bytes now
-column-stops os ts xs bytes o more t types taken now so stuck =
-    stuck-later so.front (AreColumnKeys os ts) (AreColumnKeys (o ∷ more) (type_then t types)) bytes (drop taken bytes) now so.go so.split (some-row (o ∷ more) (type_then t types) so.has)
+    → ColumnsSoFar os ts xs bytes (o ∷ more) (type_then t types) taken → HavePlain (FieldsValid ts) → IsStuck (IsColumnKey o t) (drop taken bytes) now → IsStuck (AreColumnKeys os ts) bytes now
+column-stops os ts xs bytes o more t types taken now so all stuck =
+    stuck-later so.front (AreColumnKeys os ts) (AreColumnKeys (o ∷ more) (type_then t types)) bytes (drop taken bytes) now so.go so.split (some-row (o ∷ more) (type_then t types) (so.has all))
     (stuck-within (IsColumnKey o t) (AreColumnKeys (o ∷ more) (type_then t types)) (drop taken bytes) now
-    (begin-column o more t types (drop taken bytes) (later-row t types so.has)) stuck)
+    (begin-column o more t types (drop taken bytes) (later-row t types (so.has all))) stuck)
 
 -- no row can be
 pub no-row : (os : List SortOptions) (ts : TypeTrees) (bytes : List ℕ) (e : RowError) → (e ≡ BadKey 0) × ¬ (HavePlain (FieldsValid ts)) → IsRefusal (AreColumnKeys os ts) bytes e
 no-row os ts bytes e h = inr (0, h.0, omega arith, stuck-here (AreColumnKeys os ts) bytes (λ s zs rest k alike f. h.1 (row-fields ts k.values k.plain)))
 
 -- a column is refused, at an offset that counts from the row's first byte
-pub columns-refused : (os : List SortOptions) (ts : List DType) (i : ℕ) (xs : List Scalar) (bytes : List ℕ) (o : SortOptions) (t : DType) (taken : ℕ) (e : RowError) → i < length ts → i < length os → t ≡ get_or ts i t → o ≡ get_or os i o
-    → ColumnsSoFar os (dtype_trees ts) xs bytes (drop i os) (dtype_trees (drop i ts)) taken → IsRefusalAt (IsColumnKey o (type_of t)) bytes taken e
-    → IsRefusal (AreColumnKeys os (dtype_trees ts)) bytes e
-columns-refused os ts i xs bytes o t taken e less in_options type_is option_is so (inl out) = inl out
-columns-refused os ts i xs bytes o t taken e less in_options type_is option_is so (inr (place, is, within, stuck)) =
+columns-stuck : (os : List SortOptions) (ts : List DType) (i : ℕ) (xs : List Scalar) (bytes : List ℕ) (o : SortOptions) (t : DType) (taken place : ℕ) → i < length ts → i < length os → t ≡ get_or ts i t → o ≡ get_or os i o
+    → ColumnsSoFar os (dtype_trees ts) xs bytes (drop i os) (dtype_trees (drop i ts)) taken → HavePlain (FieldsValid (dtype_trees ts)) → place ≤ length (drop taken bytes)
+    → IsStuck (IsColumnKey o (type_of t)) (drop taken bytes) (drop place (drop taken bytes)) → (taken + place ≤ length bytes) × IsStuck (AreColumnKeys os (dtype_trees ts)) bytes (drop (taken + place) bytes)
+columns-stuck os ts i xs bytes o t taken place less in_options type_is option_is so all within stuck =
     let there = at-column os ts i xs bytes o t taken less in_options type_is option_is so in
-    let stop = column-stops os (dtype_trees ts) xs bytes o (drop (i + 1) os) (type_of t) (dtype_trees (drop (i + 1) ts)) taken (drop place (drop taken bytes)) there stuck in
+    let stop = column-stops os (dtype_trees ts) xs bytes o (drop (i + 1) os) (type_of t) (dtype_trees (drop (i + 1) ts)) taken (drop place (drop taken bytes)) there all stuck in
     let long = ap length there.split in
     let parts = length-append there.front (drop taken bytes) in
     let count = there.count in
-    inr (taken + place, is, omega arith, subst (IsStuck (AreColumnKeys os (dtype_trees ts)) bytes) (drop-more taken place bytes) stop)
+    (omega arith, subst (IsStuck (AreColumnKeys os (dtype_trees ts)) bytes) (drop-more taken place bytes) stop)
+
+pub row-refused : (os : List SortOptions) (ts : List DType) (i : ℕ) (xs : List Scalar) (bytes : List ℕ) (o : SortOptions) (t : DType) (taken : ℕ) (e r : RowError) → i < length ts → i < length os → t ≡ get_or ts i t → o ≡ get_or os i o
+    → ColumnsSoFar os (dtype_trees ts) xs bytes (drop i os) (dtype_trees (drop i ts)) taken → IsRefusalAt (IsColumnKey o (type_of t)) bytes taken e → IsOfRow (HavePlain (FieldsValid (dtype_trees ts))) e r
+    → IsRefusal (AreColumnKeys os (dtype_trees ts)) bytes r
+row-refused os ts i xs bytes o t taken e r less in_options type_is option_is so h (inr none) = no-row os (dtype_trees ts) bytes r none
+row-refused os ts i xs bytes o t taken e r less in_options type_is option_is so (inl out) (inl same) = inl (same.0 ∙ out)
+row-refused os ts i xs bytes o t taken e r less in_options type_is option_is so (inr (place, is, within, stuck)) (inl same) =
+    let at = columns-stuck os ts i xs bytes o t taken place less in_options type_is option_is so (same.1 (taken + place) is) within stuck in
+    inr (taken + place, same.0 ∙ is, at.0, at.1)
 
 pub columns-within : (os : List SortOptions) (ts : TypeTrees) (xs : List Scalar) (bytes : List ℕ) (more : List SortOptions) (types : TypeTrees) (taken : ℕ) → ColumnsSoFar os ts xs bytes more types taken → taken ≤ length bytes
 columns-within os ts xs bytes more types taken so =
@@ -319,11 +326,6 @@ row-decoded os ts xs bytes n h =
     types-of (type_then t ts) (x ∷ xs) h = (h.0.0, types-of ts xs h.1)
     types-of no_types (x ∷ xs) h = absurd h
     types-of (type_then t ts) [] h = absurd h
-
-pub row-refused : (os : List SortOptions) (ts : TypeTrees) (bytes : List ℕ) (r : Result (Vec Scalar Global × ℕ) RowError) (e : RowError) → IsErr r × IsErrAnd r (λ f. f ≡ e) → IsRefusal (AreColumnKeys os ts) bytes e
-    → MatchResult r (λ p. HasRow os ts p.0.items bytes p.1) (λ f. IsRefusal (AreColumnKeys os ts) bytes f)
-row-refused os ts bytes (Ok p) e h k = absurd (true≢false (sym h.0))
-row-refused os ts bytes (Err f) e h k = subst (IsRefusal (AreColumnKeys os ts) bytes) (sym h.1) k
 
 pub rows-whole : (os : List SortOptions) (ts : List DType) (bytes : List ℕ) (r : Result (Vec Scalar Global × ℕ) RowError) → OneValue
     → MatchResult r (λ p. HasRow os (dtype_trees ts) p.0.items bytes p.1) (λ e. IsRefusal (AreColumnKeys os (dtype_trees ts)) bytes e)

@@ -1,15 +1,14 @@
 -- Steps of the reading of values, down the type.
-use Rattle.std.proofs.Common.{◌≡◌, ◌≢◌, ℕ, zero, suc, ◌+◌, ◌<◌, ◌≤◌, ◌⊎◌, inl, inr, false, true, true≢false, List, [], ◌∷◌, ◌++◌, length, length-append, map, drop, get_or, drop-cons, Option, Some as Present, Vec, Box, Global, refl, sym, subst, ap, ap₂, ◌∙◌, arith}
-use Rattle.std.specs.Prelude.{Bool, Err, IsErr, MatchResult, Ok, Result, if◌then◌else◌, ◌==◌}
-use Rattle.std.specs.Result.{IsErrAnd}
+use Rattle.std.proofs.Common.{◌≡◌, ◌≢◌, ℕ, zero, suc, ◌+◌, ◌<◌, ◌≤◌, false, true, List, [], ◌∷◌, ◌++◌, length, length-append, map, drop, get_or, drop-cons, Option, Some as Present, Vec, Box, Global, refl, sym, subst, ap, ap₂, ◌∙◌, arith}
+use Rattle.std.specs.Prelude.{Bool, Err, MatchResult, Ok, Result, if◌then◌else◌, ◌==◌}
 use Rattle.std.proofs.lemmas.Option.{same_Some}
-use Rattle.vortex_dtype.specs.Lemmas.TypeLevels.{type_of-Null, type_of-Variant, type_of-List, type_of-FixedSizeList, type_of-Map, type_of-Struct, type_of-Union, type_of-Extension}
+use Rattle.vortex_dtype.specs.Lemmas.TypeLevels.{type_of-List, type_of-FixedSizeList, type_of-Map, type_of-Struct, type_of-Union, type_of-Extension}
 use Rattle.vortex_dtype.specs.Lemmas.TypeSize.{type_size, types_size}
 use Rattle.vortex_dtype.specs.TypeOf.{as_type_trees, dtype_trees, ext_of, fields_of, map_of, type_of, variants_of}
 use Rattle.vortex_dtype.specs.TypeTree.{TypeTree, null_type, bool_type, integer_type, utf8_type, binary_type, list_type, fixed_size_list_type, map_type, struct_type, union_type, variant_type, extension_type, TypeTrees, no_types, type_then, storage, IsNullable, is_nullable, nullability_of, says_nullable}
 use Rattle.vortex_dtype.specs.declared.nullability.Nullability.{Nullability}
 use Rattle.vortex_dtype.specs.declared.nullability.Nullability.TheVariants.{NonNullable, Nullable}
-use Rattle.vortex_dtype.specs.declared.types.DType.{DType, List as List_, FixedSizeList, Map, Null, Struct, Union, Variant, Extension}
+use Rattle.vortex_dtype.specs.declared.types.DType.{DType, List as List_, FixedSizeList, Map, Struct, Union, Extension}
 use Rattle.vortex_dtype.specs.declared.types.ExtDType.{ExtDType}
 use Rattle.vortex_dtype.specs.declared.types.MapDType.{MapDType}
 use Rattle.vortex_dtype.specs.declared.types.StructFields.{StructFields}
@@ -23,12 +22,12 @@ use Rattle.vortex_value.specs.declared.unions.UnionValue.{UnionValue}
 use Rattle.vortex_value.specs.Values.RawTree.{RawTree, absent, raw_union, raw_variant, RawTrees, no_raws, raw_then}
 use Rattle.vortex_value.proofs.ValueSteps.{value_tree-Tuple, value_tree-Union}
 use Rattle.vortex_row.specs.Keys.{key}
-use Rattle.vortex_row.specs.Reading.{ArePlain, AreKeys, AreSized, HasOne, HasPlain, HasRead, HavePlain, IsChild, IsKey, IsPlain, IsPresent, IsStuck, Puts, Reads, entry_type}
+use Rattle.vortex_row.specs.Reading.{ArePlain, AreKeys, AreSized, HasRead, HavePlain, IsChild, IsKey, IsPlain, IsPresent, IsStuck, Puts, Reads, entry_type}
 use Rattle.vortex_row.specs.declared.reader.KeyDecodeError.{KeyDecodeError}
 use Rattle.vortex_row.specs.declared.reader.KeyDecodeError.TheVariants.{Bad, NoMemory}
 use Rattle.vortex_row.proofs.OrderLaws.{begins}
-use Rattle.vortex_row.proofs.PartSteps.{SameValues, SoFar, Takes, TupleOf, null-read, opens-none, opens-stuck, present-read, present-stuck, reads-as, so-far-end, so-far-more, so-far-none, so-far-open, so-far-stuck, some-keys, some_sized, stuck-as, tagged-opens, takes-field, tuple-opens, tuple-parts, tuple-read}
-use Rattle.vortex_row.proofs.StuckLaws.{Some, stuck-here, stuck-same}
+use Rattle.vortex_row.proofs.PartSteps.{SoFar, Takes, TupleOf, null-read, opens-none, opens-stuck, present-read, present-stuck, reads-as, so-far-end, so-far-more, so-far-none, so-far-open, so-far-stuck, some-keys, some_sized, tagged-opens, takes-field, tuple-opens, tuple-read}
+use Rattle.vortex_row.proofs.StuckLaws.{Some}
 use Rattle.vortex_cells.proofs.VariantSteps.{type_size_item}
 use Rattle.vortex_row.proofs.ReaderSteps.{none-left}
 

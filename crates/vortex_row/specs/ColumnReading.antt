@@ -68,3 +68,7 @@ pub record HasColumnAt (o : SortOptions) (t : TypeTree) (x : Scalar) (bytes : Li
 abbrev pub IsRefusalAt : (List ℕ → Type 0) → List ℕ → ℕ → RowError → Type 0
 IsRefusalAt Is bytes start e =
     (e ≡ OutOfMemory) ⊎ ((place : ℕ) × (e ≡ BadKey (start + place)) × (place ≤ length (drop start bytes)) × IsStuck Is (drop start bytes) (drop place (drop start bytes)))
+
+-- the refusal of a row by that of a column: where rows have no value, their first byte is bad
+abbrev pub IsOfRow : Type 0 → RowError → RowError → Type 0
+IsOfRow Rows column e = ((e ≡ column) × ((place : ℕ) → column ≡ BadKey place → Rows)) ⊎ ((e ≡ BadKey 0) × ¬ Rows)

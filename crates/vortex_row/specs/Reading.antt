@@ -133,6 +133,10 @@ abbrev pub of_whole : ValueError → Bool → ValueError
 of_whole (Key Bad) has_rest = bad_or_none has_rest
 of_whole e has_rest = e
 
+-- it is that of a whole, by that of a part, if this is what comes after that part
+abbrev pub IsOfWhole : ValueError → Type 0 → ValueError → Type 0
+IsOfWhole part Rest e = (b : Bool) × (e ≡ of_whole part b) × Tells b Rest
+
 -- where no value need come: if there is none, the byte at start is bad
 abbrev pub GoesBack : List ℕ → ValueError → KeyDecodeError → List ℕ → List ℕ → Type 0
 GoesBack start NoValue e old now = (e ≡ Bad) × (now ≡ start)

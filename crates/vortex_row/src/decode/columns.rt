@@ -6,7 +6,7 @@ ghost use Rattle.vortex_row.specs.ColumnReading.{IsRefusalAt};
 ghost use Rattle.vortex_row.specs.Words.{IsNullable, OutOfMemory, absent, dtype_trees, null_byte, raw_of, scalar_raw};
 ghost use Rattle.vortex_row.specs.Words.{scalar_type, type_of};
 
-use super::inhabited::expect_row;
+use super::inhabited::of_row;
 use super::values::read_into;
 use crate::error::RowError;
 use crate::options::SortOptions;
@@ -185,13 +185,16 @@ pub(super) fn decode_columns(
         (λ p. HasRow options.now (dtype_trees dtypes.now) p.0.items bytes.now p.1)
         (λ e. IsRefusal (AreColumnKeys options.now (dtype_trees dtypes.now)) bytes.now e) }
 {
-    expect_row(dtypes)?;
     let mut scalars = Vec::with_capacity(alloc, dtypes.len())?;
     let mut place = 0;
     for column in 0..dtypes.len() {
-        let (scalar, next) = decode_at(alloc, &dtypes[column], options[column], bytes, place)?;
-        scalars.push(scalar)?;
-        place = next;
+        match decode_at(alloc, &dtypes[column], options[column], bytes, place) {
+            Ok((scalar, next)) => {
+                scalars.push(scalar)?;
+                place = next;
+            }
+            Err(error) => return Err(of_row(dtypes, error)),
+        }
     }
     Ok((scalars, place))
 }

@@ -1,11 +1,14 @@
 //! Whether types have values that keys can have. A union without variants has none, and so has what
-//! must hold a value of such a type. It is asked only once bytes are refused, and of no part of a
-//! type twice.
+//! must hold a value of such a type. It is asked only once bytes are refused, and of no part of a type
+//! more than twice.
 
-ghost use Rattle.std.specs.Prelude.{◌≡◌, ◌≢◌, ◌∷◌, ℕ, List, MatchResult, Some, option_map, true};
+ghost use Rattle.std.specs.Prelude.{◌≡◌, ◌≢◌, ◌+◌, ◌<◌, ◌∷◌, ℕ, List, Some, drop, length, option_map};
+ghost use Rattle.std.specs.Prelude.{true};
+ghost use Rattle.vortex_row.specs.ColumnReading.{IsOfRow};
 ghost use Rattle.vortex_row.specs.Reading.{AreSized, GoesBack, GoesBackIn, HasChild, HasOne, HasPlain, HavePlain};
-ghost use Rattle.vortex_row.specs.Reading.{IsChild, IsPresent, LacksChild, Refuses, Tells, bad_or_none, left, of_whole};
-ghost use Rattle.vortex_row.specs.Words.{BadKey, FieldsValid, IsNullable, Valid, as_type_trees, dtype_trees, map_of};
+ghost use Rattle.vortex_row.specs.Reading.{IsChild, IsOfWhole, IsPresent, LacksChild, Refuses, Tells, bad_or_none};
+ghost use Rattle.vortex_row.specs.Reading.{left, of_whole};
+ghost use Rattle.vortex_row.specs.Words.{FieldsValid, IsNullable, Valid, as_type_trees, dtype_trees, map_of};
 ghost use Rattle.vortex_row.specs.Words.{no_types, type_of, type_then, type_with, variants_of};
 ghost use Rattle.vortex_row.specs.declared.reader.ValueError.TheVariants.{NoValue};
 
@@ -159,6 +162,14 @@ pub(super) fn of_whole(part: ValueError, has_rest: bool) -> ValueError
     }
 }
 
+/// The refusal of a struct of which the field at this place is refused so.
+pub(super) fn of_struct(dtypes: &[DType], index: usize, field: ValueError) -> ValueError
+    requires { index < length dtypes.now }
+    ensures { IsOfWhole field (HavePlain (FieldsValid (dtype_trees (drop (index + 1) dtypes.now)))) result }
+{
+    of_whole(field, have_values(&dtypes[index + 1..]))
+}
+
 /// The refusal of a part that need not come. If there is no such part, the byte with which it would
 /// begin is bad: the reader goes back to that.
 pub(super) fn of_optional<'a>(
@@ -166,7 +177,7 @@ pub(super) fn of_optional<'a>(
     part: ValueError,
     reader: &mut Reader<'a>,
 ) -> KeyDecodeError
-    ensures { GoesBack (left start) part result (left reader.old) (left reader.new) }
+    ensures { GoesBack (left start.entry) part result (left reader.old) (left reader.new) }
 {
     match part {
         ValueError::Key(error) => error,
@@ -186,7 +197,7 @@ pub(super) fn of_nullable<'a>(
 ) -> ValueError
     requires present { Refuses (IsPresent (type_of dtype.now)) present (left start) (left reader.old) }
     requires other { IsNullable (type_of dtype.now) → (bs : List ℕ) → left start ≢ 1 ∷ bs }
-    ensures { Refuses (Valid (type_of dtype.now)) result (left start) (left reader.new) }
+    ensures { Refuses (Valid (type_of dtype.now)) result (left start.entry) (left reader.new) }
 {
     if dtype.is_nullable() {
         return ValueError::Key(of_optional(start, present, reader));
@@ -207,7 +218,7 @@ pub(super) fn of_union<'a>(
         (as_type_trees (variants_of variants.now).types)) }
     ensures { GoesBackIn (HasOne (IsChild (variants_of variants.now).type_ids
         (as_type_trees (variants_of variants.now).types)))
-        (left start) child result (left reader.old) (left reader.new) }
+        (left start.entry) child result (left reader.old) (left reader.new) }
 {
     match child {
         ValueError::Key(error) => ValueError::Key(error),
@@ -218,14 +229,18 @@ pub(super) fn of_union<'a>(
     }
 }
 
-/// `BadKey` of the first byte if one of the types has no value: then no row has.
-pub(super) fn expect_row(dtypes: &[DType]) -> Result<(), RowError>
-    ensures { MatchResult result
-        (λ _. HavePlain (FieldsValid (dtype_trees dtypes.now)))
-        (λ e. (e ≡ BadKey 0) × ¬ (HavePlain (FieldsValid (dtype_trees dtypes.now)))) }
+/// The refusal of a row of which a column is refused so. If one of the types has no value, no row has,
+/// and the first byte is bad.
+pub(super) fn of_row(dtypes: &[DType], column: RowError) -> RowError
+    ensures { IsOfRow (HavePlain (FieldsValid (dtype_trees dtypes.now))) column result }
 {
-    if !have_values(dtypes) {
-        return Err(RowError::BadKey { offset: 0 });
+    match column {
+        RowError::BadKey { .. } => {
+            if have_values(dtypes) {
+                return column;
+            }
+            RowError::BadKey { offset: 0 }
+        }
+        _ => column,
     }
-    Ok(())
 }

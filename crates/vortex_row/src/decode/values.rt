@@ -14,7 +14,7 @@ ghost use Rattle.vortex_row.specs.declared.reader.KeyDecodeError.TheVariants.{No
 
 use super::inhabited::{
     bad_or_none, has_child, has_entry, has_sized, has_value, have_values, of_nullable, of_optional,
-    of_union, of_whole, variant_with,
+    of_struct, of_union, of_whole, variant_with,
 };
 use super::leaves::{put_number, put_text, read_binary, read_primitive, read_truth, read_utf8};
 use super::numbers::read_number;
@@ -352,9 +352,9 @@ fn read_struct(
         return Err(bad_or_none(have_values(dtypes)));
     }
     let mut parts = Vec::new(alloc);
-    for (index, dtype) in dtypes.iter().enumerate() {
-        if let Err(error) = push_next(alloc, dtype, reader, &mut parts) {
-            return Err(of_whole(error, have_values(&dtypes[index + 1..])));
+    for index in 0..dtypes.len() {
+        if let Err(error) = push_next(alloc, &dtypes[index], reader, &mut parts) {
+            return Err(of_struct(dtypes, index, error));
         }
     }
     reader.take(END)?;
@@ -378,12 +378,12 @@ fn read_union(
         return Err(bad_or_none(has_child(variants, None)));
     }
     let start = *reader;
-    let Some((id, dtype)) = variant_at(variants, reader) else {
-        return Err(bad_or_none(has_child(variants, None)));
-    };
-    match read(alloc, dtype, reader) {
-        Ok(child) => Ok(ScalarValue::Union(union_of(alloc, id, child)?)),
-        Err(error) => Err(of_union(variants, id, start, error, reader)),
+    match variant_at(variants, reader) {
+        Some((id, dtype)) => match read(alloc, dtype, reader) {
+            Ok(child) => Ok(ScalarValue::Union(union_of(alloc, id, child)?)),
+            Err(error) => Err(of_union(variants, id, start, error, reader)),
+        },
+        None => Err(bad_or_none(has_child(variants, None))),
     }
 }
 

@@ -67,7 +67,7 @@ has_child-returns-then-has_child_at t c =
     one-child c.child_index_to_tag.result _ _ small (told-so _ _ c.if-has_child_at.true c.has_child_at.ensures)
 
 pub has_child-returns : goal.has_child-returns
-has_child-returns t c = no-children c.loop-index.index _ _ (omega (arith, c.len.ensures, c.loop-index-test.false)) c.loop-index.invariant
+has_child-returns t c = no-children c.loop-index.index _ _ (omega (arith, c.len-index-end.ensures, c.loop-index-test.false)) c.loop-index.invariant
 
 pub has_child_at-returns-then-is_some_id : goal.has_child_at-returns-then-is_some_id
 has_child_at-returns-then-is_some_id t c =

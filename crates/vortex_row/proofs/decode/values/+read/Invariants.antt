@@ -25,8 +25,8 @@ invariant-read_map-loop-alloc l =
 abbrev pub decreases-read_map-loop-alloc : goal.decreases-read_map-loop-alloc
 decreases-read_map-loop-alloc l = length (left l.reader)
 
-abbrev pub invariant-read_struct-loop-dtype : goal.invariant-read_struct-loop-dtype
-invariant-read_struct-loop-dtype l =
+abbrev pub invariant-read_struct-loop-index : goal.invariant-read_struct-loop-index
+invariant-read_struct-loop-index l =
     SoFar (FieldsValid (dtype_trees l.dtypes)) (value_trees l.parts.items) (left l.initial.reader) (FieldsValid (dtype_trees (drop l.index l.dtypes))) (left l.reader)
 
 abbrev pub decreases-read : goal.decreases-read
