@@ -4,6 +4,9 @@ use Rattle.std.specs.Prelude.{Err, IfErr, IsErr, Ok, OnErr, OnOk, Result}
 use Rattle.std.specs.Result.{IsErrAnd}
 use Rattle.vortex_dtype.specs.TypeTree.{TypeTree}
 use Rattle.vortex_value.specs.Equality.{HasNoTyped}
+use Rattle.vortex_value.specs.Values.Content.{Content}
+use Rattle.vortex_value.specs.Values.Scalars.{scalar_content}
+use Rattle.vortex_value.specs.declared.scalars.Scalar.{Scalar}
 use Rattle.vortex_row.specs.Held.{IsHeld}
 use Rattle.vortex_row.specs.Keys.{key}
 use Rattle.vortex_cells.specs.Cells.{Cell}
@@ -45,6 +48,13 @@ written_as K L P Q xs ys (Err d) old now to from e w = (refused_too P Q d from w
 -- what was begun goes on
 pub begins_on : (old mid now : List ℕ) → Begins old mid → Begins mid now → Begins old now
 begins_on old mid now h g = begins_later h.more old mid now h.is g
+
+-- the key of a content that has no variant's child
+pub content_written : (x : Scalar) (c : Content) (r : Result Unit FilterEncodingError) (old now : List ℕ) → scalar_content x ≡ c → HasNoTyped c → OnOk r (now ≡ old ++ key (scalar_content x)) → OnOk r (IsHeld (scalar_content x))
+    → IfErr r (IsRefused (HasNoTyped (scalar_content x))) → OnErr r (now ≡ old) → Appends (IsHeld c) (Unit {0}) (key c) r old now
+content_written x c (Ok u) old now e untyped ok held err same = (subst IsHeld e held, ok ∙ ap (λ d. old ++ key d) e)
+content_written x c (Err d) old now e untyped ok held err same =
+    (refused_too (HasNoTyped (scalar_content x)) (Unit {0}) d (λ u. subst HasNoTyped (sym e) untyped) err, record { more = []; is = same ∙ sym (append-nil old) })
 
 -- a key, after the byte of its type
 pub key_written : (x : Cell) (t : TypeTree) (r : Result Unit FilterEncodingError) (old mid now : List ℕ) → x.typed ≡ t → IsPlain t × (mid ≡ old ++ type_bytes t) → OnOk r (now ≡ mid ++ key x.content) → OnOk r (IsHeld x.content) → OnOk r (HasNoTyped x.content)
