@@ -21,6 +21,10 @@ pub enum FilterEncodingError {
     /// the end if they end too early.
     #[error("no encoding of a filter: byte {offset}")]
     BadBytes { offset: usize },
+    /// A literal is no value of its logical type, as a day past the year 9999: the offset of the
+    /// first such value.
+    #[error("no value of its type: byte {offset}")]
+    NotAValue { offset: usize },
 }
 
 /// Out of memory, whatever was asked for.

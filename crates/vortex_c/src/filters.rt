@@ -247,6 +247,7 @@ fn tell_unread(cause: FilterEncodingError, column: usize, fault: &mut Fault) -> 
         FilterEncodingError::OutOfMemory => NO_MEMORY,
         FilterEncodingError::NoEncoding => at(column, 0, fault, BAD_BYTES),
         FilterEncodingError::BadBytes { offset } => at(column, offset, fault, BAD_BYTES),
+        FilterEncodingError::NotAValue { offset } => at(column, offset, fault, BAD_BYTES),
     }
 }
 
