@@ -117,10 +117,14 @@ HasBeenRead n p old now = (version : ℕ) × IsVersion version × HasRead (encod
 
 pub encoding_read : (n : ℕ) (ts : List TypeTree) (f : Formula) (old mid here now : List ℕ) → Begun old mid → HasRead (listed type_bytes) (AreListed IsPlain) ts mid here → HasRead node_bytes (IsNode n) f here now
     → HasBeenRead n (prepared_of ts f) old now
-encoding_read n ts f old mid here now b h g = (b.0, b.1, record {
-  is_one = record { types = h.is_one; filter = g.is_one };
-  is = b.2 ∙ ap (λ xs. b.0 ∷ xs) (h.is ∙ ap (λ xs. listed type_bytes ts ++ xs) g.is ∙ sym (append_assoc (listed type_bytes ts) (node_bytes f) now));
-})
+encoding_read n ts f old mid here now b h g = (
+  b.0,
+  b.1,
+  record {
+    is_one = record { types = h.is_one; filter = g.is_one };
+    is = b.2 ∙ ap (λ xs. b.0 ∷ xs) (h.is ∙ ap (λ xs. listed type_bytes ts ++ xs) g.is ∙ sym (append_assoc (listed type_bytes ts) (node_bytes f) now));
+  },
+)
 
 -- a refusal that is passed on
 pub refused_on : (n : ℕ) (r : Result PreparedFilter FilterDecodeError) (e : FilterDecodeError) (old now : List ℕ) → IsErr r × IsErrAnd r (λ f. f ≡ e) → (e ≡ Bad → IsStuck (IsEncoding n) old now) → ReadsEncoding n r old now

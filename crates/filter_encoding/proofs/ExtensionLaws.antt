@@ -1,5 +1,5 @@
 -- Extensions: what comes after their first byte, and where it does not go on.
-use Rattle.std.proofs.Common.{◌≡◌, ◌≢◌, ℕ, List, [], ◌∷◌, ◌++◌, refl, sym, subst, ap, ap₂, ◌∙◌, append_assoc}
+use Rattle.std.proofs.Common.{◌≡◌, ◌≢◌, ℕ, List, [], ◌∷◌, ◌++◌, refl, sym, subst, ap, ap₂, ◌∙◌}
 use Rattle.std.specs.Prelude.{Err, Ok, Result}
 use Rattle.vortex_dtype.specs.TypeOf.{type_of}
 use Rattle.vortex_dtype.specs.TypeTree.{TypeTree, null_type, utf8_type, binary_type, extension_type}
@@ -14,13 +14,13 @@ use Rattle.vortex_row.proofs.ApartLaws.{key-apart}
 use Rattle.vortex_row.proofs.KeyLaws.{values_have_no_typed}
 use Rattle.vortex_row.proofs.PartSteps.{some_value}
 use Rattle.filter_encoding.specs.Encoding.{HasByte, IsPlain, IsPlainExtension, byte_string, extension_bytes, type_byte, type_bytes}
-use Rattle.filter_encoding.specs.Steps.{Appends, IsKeyOfType, ReadsByte, ReadsType, Writes}
-use Rattle.filter_encoding.specs.Strings.{BeginAlike, HasRead, IsEncodingOf, IsStuck, Then}
+use Rattle.filter_encoding.specs.Steps.{IsKeyOfType, ReadsByte, ReadsType, Writes}
+use Rattle.filter_encoding.specs.Strings.{BeginAlike, IsEncodingOf, IsStuck, Then}
 use Rattle.filter_encoding.specs.declared.error.FilterEncodingError.{FilterEncodingError}
 use Rattle.filter_encoding.specs.declared.reader.FilterDecodeError.{FilterDecodeError}
 use Rattle.filter_encoding.proofs.Stuck.{AreAlone, GoesOn, encoding_of, stuck_later, stuck_within, then_begins, then_goes_on}
 use Rattle.filter_encoding.proofs.TypeLaws.{Form, by_byte, by_extension, first_same, form, no_extension, plain_bytes, plain_of, plain_ordered}
-use Rattle.filter_encoding.proofs.WriteSteps.{then_written, written_as}
+use Rattle.filter_encoding.proofs.WriteSteps.{written_as}
 
 abbrev Types : List ℕ → Type 0
 Types = IsEncodingOf type_bytes IsPlain
@@ -136,17 +136,6 @@ pub storage_stuck : (id m old mid here now : List ℕ) → IsHeld (text id) × (
 storage_stuck id m old mid here now a b stuck =
     behind_id id old mid now a.0 a.1 (stuck_later (key (string m)) Metadata Bytes mid here now (then_goes_on (IsKeyOfType strings) Bytes (key (string m)) (keys_alone strings tt) (string_key m b.0)) b.1 stuck)
 
--- an extension is read
-pub extension_read : (id m old mid here now : List ℕ) (u t : TypeTree) → t ≡ extension_type id m u → IsHeld (text id) × (old ≡ key (text id) ++ mid) → IsHeld (string m) × (mid ≡ key (string m) ++ here) → HasRead byte_string HasByte u here now
-    → HasRead type_bytes IsPlain t (32 ∷ old) now
-extension_read id m old mid here now u t same a b h = subst (λ s. HasRead type_bytes IsPlain s (32 ∷ old) now) (sym same) (record {
-  is_one = record { id_held = a.0; metadata_held = b.0; stored = h.is_one };
-  is =
-      ap (λ l. 32 ∷ l)
-      (a.1 ∙ ap (λ l. key (text id) ++ l) (b.1 ∙ ap (λ l. key (string m) ++ l) h.is ∙ sym (append_assoc (key (string m)) (byte_string u) now))
-      ∙ sym (append_assoc (key (text id)) (key (string m) ++ byte_string u) now));
-})
-
 -- ---- types by their byte
 
 -- what begins alike begins with the same byte
@@ -192,18 +181,3 @@ no_extension_bytes _ none = refl
 pub byte_written : (t : TypeTree) (r : Result Unit FilterEncodingError) (old now : List ℕ) → ((id m : List ℕ) (u : TypeTree) → t ≢ extension_type id m u) → Writes (HasByte t) (byte_string t) r old now → Writes (IsPlain t) (type_bytes t) r old now
 byte_written t r old now none h =
     written_as (HasByte t) (IsPlain t) (HasByte t) (IsPlain t) (byte_string t) (type_bytes t) r old now (plain_of t) (λ p. byte_of_plain t none (form t p)) (no_extension_bytes t none) h
-
--- the parts of an extension, one after the other
-pub id_written : (id m : List ℕ) (u : TypeTree) (r : Result Unit FilterEncodingError) (old mid now : List ℕ) → mid ≡ old ++ 32 ∷ [] → Appends (IsHeld (text id)) (Unit {0}) (key (text id)) r mid now → Appends (IsHeld (text id)) (IsPlainExtension id m u) (32 ∷ key (text id)) r old now
-id_written id m u r old mid now e h = then_written (IsHeld (text id)) (IsHeld (text id)) (Unit {0}) (IsPlainExtension id m u) (32 ∷ []) (key (text id)) r old mid now (λ k. k) (λ p. tt) e h
-
-pub metadata_written : (id m : List ℕ) (u : TypeTree) (r : Result Unit FilterEncodingError) (old mid now : List ℕ) → IsHeld (text id) × (mid ≡ old ++ 32 ∷ key (text id)) → Appends (IsHeld (string m)) (Unit {0}) (key (string m)) r mid now
-    → Appends (IsHeld (text id) × IsHeld (string m)) (IsPlainExtension id m u) (32 ∷ (key (text id) ++ key (string m))) r old now
-metadata_written id m u r old mid now a h =
-    then_written (IsHeld (string m)) (IsHeld (text id) × IsHeld (string m)) (Unit {0}) (IsPlainExtension id m u) (32 ∷ key (text id)) (key (string m)) r old mid now (λ k. (a.0, k)) (λ p. tt) a.1 h
-
-pub storage_written : (id m : List ℕ) (u : TypeTree) (r : Result Unit FilterEncodingError) (old mid now : List ℕ) → (IsHeld (text id) × IsHeld (string m)) × (mid ≡ old ++ 32 ∷ (key (text id) ++ key (string m))) → Writes (HasByte u) (byte_string u) r mid now
-    → Writes (IsPlainExtension id m u) (extension_bytes id m u) r old now
-storage_written id m u r old mid now a h =
-    written_as (IsPlainExtension id m u) (IsPlainExtension id m u) (IsPlainExtension id m u) (IsPlainExtension id m u) _ (extension_bytes id m u) r old now (λ k. k) (λ p. p) (ap (λ l. 32 ∷ l) (append_assoc (key (text id)) (key (string m)) (byte_string u)))
-    (then_written (HasByte u) (IsPlainExtension id m u) (HasByte u) (IsPlainExtension id m u) (32 ∷ (key (text id) ++ key (string m))) (byte_string u) r old mid now (λ k. record { id_held = a.0.0; metadata_held = a.0.1; stored = k }) (λ p. p.stored) a.1 h)

@@ -1,5 +1,5 @@
 -- Which literals are values of their logical types.
-use Rattle.std.proofs.Common.{◌≡◌, ◌≢◌, ◌⊎◌, ◌||◌, ◌<◌, ◌+◌, inl, inr, ℕ, suc, ℤ, Bool, true, false, List, [], ◌∷◌, length, drop, drop-cons, get_or, map, refl, sym, subst, ap, ◌∙◌, arith}
+use Rattle.std.proofs.Common.{◌≡◌, ◌≢◌, ◌⊎◌, ◌||◌, ◌<◌, ◌+◌, inl, inr, ℕ, suc, ℤ, Bool, true, false, List, ◌∷◌, length, drop, drop-cons, get_or, map, refl, sym, subst, ap, ◌∙◌, arith}
 use Rattle.std.specs.List.{AllByRecursion, list_any}
 use Rattle.vortex_value.specs.Values.Content.{content, null}
 use Rattle.vortex_value.specs.Values.RawTree.{RawTree, absent, is_absent}

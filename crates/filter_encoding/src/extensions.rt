@@ -1,6 +1,6 @@
 //! The bytes of extensions: an id and metadata by their keys, and what stores the values.
 
-ghost use Rattle.std.specs.Prelude.{◌≡◌, ◌≢◌, ◌∷◌, ℕ, List, MatchOption, MatchResult, Ok, Err, map};
+ghost use Rattle.std.specs.Prelude.{◌≡◌, ◌≢◌, ◌∷◌, ℕ, List, MatchOption};
 ghost use Rattle.vortex_dtype.specs.TypeTree.{TypeTree, binary_type, extension_type, utf8_type};
 ghost use Rattle.vortex_dtype.specs.Words.{ext_of};
 ghost use Rattle.vortex_dtype.specs.declared.nullability.Nullability.TheVariants as Nullabilities;

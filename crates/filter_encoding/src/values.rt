@@ -1,6 +1,6 @@
 //! Which literals are values of their logical types.
 
-ghost use Rattle.std.specs.Prelude.{◌≡◌, ◌↔◌, IsTrue, map};
+ghost use Rattle.std.specs.Prelude.{◌↔◌, IsTrue, map};
 ghost use Rattle.std.specs.List.{AllByRecursion};
 ghost use Rattle.filter_encoding.specs.Words.{HasValues, IsLogicallyValid, cell_of, formula};
 

@@ -11,6 +11,7 @@ use Rattle.arrow_columns.specs.declared.kinds.Kind.{Kind}
 use Rattle.arrow_columns.specs.declared.kinds.Kind.TheVariants.{Binary, Boolean, Integer, LargeBinary, LargeUtf8, Null, Utf8}
 use Rattle.column_cells.specs.Types.{type_at}
 use Rattle.vortex_dtype.specs.TypeTree.{binary_type, bool_type, erase, integer_type, null_type, TypeTree, utf8_type}
+use Rattle.vortex_value.specs.Equality.{HasNoTyped}
 use Rattle.vortex_cells.specs.Cells.{Cell}
 use Rattle.vortex_filter.specs.declared.operator.CompareOperator.{CompareOperator}
 use Rattle.vortex_filter.specs.declared.operator.CompareOperator.TheVariants.{Eq, NotEq, Gt, Gte, Lt, Lte}
@@ -20,10 +21,9 @@ use Rattle.vortex_filter.specs.Literals.{LiteralTree, position_of, text_literal}
 use Rattle.vortex_filter.specs.Operators.{holds}
 use Rattle.vortex_filter.specs.Positions.{cells_of, comparison_above, comparison_of, exactly, for_values, just_above, lacking, member_among, member_of, PositionTree, prefix_of, range_of}
 use Rattle.vortex_filter.proofs.PositionLaws.{CellFits}
-use Rattle.filter_encoding.specs.Encoding.{CanBeWritten, HasByte, IsPlainCell, Nests}
-use Rattle.filter_encoding.proofs.TypeLaws.{plain_of}
-use Rattle.vortex_value.specs.Equality.{HasNoTyped}
+use Rattle.filter_encoding.specs.Encoding.{CanBeWritten, HasByte, IsPlain, IsPlainCell, Nests}
 use Rattle.filter_encoding.specs.Lists.{AreListed, Fits}
+use Rattle.filter_encoding.proofs.TypeLaws.{plain_of}
 use Rattle.filter_sql.specs.ColumnNames.{column_named, column_there, ColumnTree, named_place, or_numbered, typed_place}
 use Rattle.filter_sql.specs.Grammar.{and_filter, AreLiterals, bare_test, between_literals, compares, group, in_literals, in_nothing, is_not_null, is_null, IsCondition, IsFilter, IsPredicate, IsTest, like_escaped, like_pattern, more_literals, not_filter, not_test, on_column, one_conjunction, one_literal, one_operand, or_filter, predicate, prefix_call, says_false, says_null, says_true}
 use Rattle.filter_sql.specs.Literals.{begun, Condition, formula_in, missing, positions_of}
@@ -284,9 +284,9 @@ plain-kind (Some Binary) = tt
 plain-kind (Some LargeBinary) = tt
 plain-kind (Some Null) = tt
 
-plain-kinds : (named : List NamedKind) → AllByRecursion HasByte (types_of_kinds named)
+plain-kinds : (named : List NamedKind) → AllByRecursion IsPlain (types_of_kinds named)
 plain-kinds [] = tt
-plain-kinds (column ∷ named) = (plain-kind (kind_at column.kind), plain-kinds named)
+plain-kinds (column ∷ named) = (plain_of (type_at (kind_at column.kind)) (plain-kind (kind_at column.kind)), plain-kinds named)
 
 plain-column : (k : ℕ) (t : TypeTree) (o : Option NamedKind) → option_map (λ (c : ColumnTree). c.typed) (option_map tree_of_kind o) ≡ Some t → HasByte t
 plain-column k t None e = absurd cc

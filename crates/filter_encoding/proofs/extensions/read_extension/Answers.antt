@@ -1,8 +1,7 @@
 -- The id, the metadata and the storage.
-use Rattle.std.proofs.Common.{sym}
 use Rattle.vortex_dtype.specs.TypeOf.{type_of}
 use Rattle.filter_encoding.specs.Encoding.{IsPlain, type_bytes}
-use Rattle.filter_encoding.proofs.ExtensionLaws.{extension_read, id_stuck, metadata_stuck, storage_stuck}
+use Rattle.filter_encoding.proofs.ExtensionLaws.{id_stuck, metadata_stuck, storage_stuck}
 use Rattle.filter_encoding.proofs.ReadSteps.{passed_on}
 use Rattle.filter_encoding.proofs.extensions.read_extension.Goals as goal
 

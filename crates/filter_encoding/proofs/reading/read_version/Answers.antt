@@ -1,5 +1,5 @@
 -- Either version, or neither.
-use Rattle.std.proofs.Common.{◌≡◌, ◌≢◌, ◌⊎◌, ◌∙◌, ℕ, List, ◌∷◌, inl, inr, refl, ap, sym}
+use Rattle.std.proofs.Common.{◌≡◌, ◌≢◌, ◌∙◌, ℕ, List, ◌∷◌, inl, inr, refl, ap, sym}
 use Rattle.filter_encoding.specs.Encoding.{IsVersion}
 use Rattle.filter_encoding.proofs.reading.read_version.Goals as goal
 

@@ -1,12 +1,9 @@
 -- A filter with valid literals that can be written is read back as itself.
-use Rattle.std.proofs.Common.{◌≡◌, ◌⊎◌, inl, inr, ℕ, zero, suc, List, [], ◌∷◌, ◌++◌, map, ap, sym, subst, ◌∙◌, Result, Ok, Err, IfOk, true≢false}
+use Rattle.std.proofs.Common.{◌≡◌, ◌⊎◌, inl, inr, ℕ, List, [], ◌++◌, map, ap, sym, subst, ◌∙◌, Result, Ok, Err, IfOk, true≢false}
 use Rattle.std.specs.Prelude.{IsErr}
-use Rattle.std.specs.List.{AllByRecursion}
 use Rattle.std.specs.Result.{IsErrAnd}
 use Rattle.vortex_dtype.specs.declared.types.DType.{DType}
-use Rattle.vortex_cells.specs.Cells.{Cell}
 use Rattle.vortex_filter.specs.FilterLiterals.{AreValid, FormulasSayLiterals, exactly_of, literals_of}
-use Rattle.vortex_filter.specs.Formula.{Formula, constant, comparison, null_test, membership, range, prefix_test, both, either, negation}
 use Rattle.filter_encoding.specs.Answers.{ReadsAs}
 use Rattle.filter_encoding.specs.Encoding.{CanBeWritten, HasEncoding, Prepared, encoding, parts_of, prepared, version_of}
 use Rattle.filter_encoding.proofs.EncodingLaws.{written_version}
