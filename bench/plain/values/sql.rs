@@ -7,7 +7,7 @@ use std::vec::IntoIter;
 use crate::filters::{CompareOperator, Filter, Truth};
 use crate::pvalues::PValue;
 use crate::read::{BadLine, Read};
-use crate::types::DType;
+use crate::types::{DType, PType};
 use crate::values::{BufferString, ByteBuffer, Scalar, ScalarValue};
 
 #[derive(PartialEq)]
@@ -15,7 +15,8 @@ enum Token {
     /// In lower case.
     Word(String),
     Column(usize),
-    Integer(i128),
+    /// As it is written.
+    Number(String),
     Text(String),
     Bytes(Vec<u8>),
     Mark(&'static str),
@@ -45,9 +46,10 @@ fn tokens(mut text: &str) -> Read<Vec<Token>> {
                 (Token::Bytes(bytes(&digits)?), rest)
             }
             '-' | '0'..='9' => {
-                let end = end_of(&text[1..], |letter| letter.is_ascii_digit()) + 1;
-                let number = text[..end].parse().map_err(|_| BadLine)?;
-                (Token::Integer(number), &text[end..])
+                let end = end_of(&text[1..], |letter| {
+                    letter.is_ascii_digit() || letter == '.'
+                }) + 1;
+                (Token::Number(text[..end].to_string()), &text[end..])
             }
             'a'..='z' | 'A'..='Z' | '_' => {
                 let end = end_of(text, |letter| {
@@ -115,9 +117,10 @@ struct Parser<'a> {
     columns: &'a [DType],
 }
 
-/// A literal of a column's type, or a number that the type lacks.
+/// A literal of a column's type, or a number that the type lacks: between this value and the next, below or above all.
 enum Literal {
     Scalar(Scalar),
+    JustAbove(Scalar),
     Below,
     Above,
 }
@@ -295,12 +298,8 @@ impl Parser<'_> {
             (Token::Word(word), DType::Bool(_)) if word == "false" => {
                 Some(ScalarValue::Bool(false))
             }
-            (Token::Integer(number), DType::Primitive(ptype, _)) => {
-                match PValue::from_whole(number, *ptype) {
-                    Some(number) => Some(ScalarValue::Primitive(number)),
-                    None if number < 0 => return Ok(Literal::Below),
-                    None => return Ok(Literal::Above),
-                }
+            (Token::Number(word) | Token::Text(word), DType::Primitive(ptype, _)) => {
+                return number(&word, *ptype, dtype);
             }
             (Token::Text(text), DType::Utf8(_)) => Some(ScalarValue::Utf8(BufferString::new(text))),
             (Token::Bytes(bytes), DType::Binary(_)) => {
@@ -310,6 +309,29 @@ impl Parser<'_> {
         };
         Ok(Literal::Scalar(Scalar::new_unchecked(dtype.clone(), value)))
     }
+}
+
+/// A number among the integers of a type.
+fn number(word: &str, ptype: PType, dtype: &DType) -> Read<Literal> {
+    let (whole, fraction) = word.split_once('.').unwrap_or((word, ""));
+    let whole: i128 = whole.parse().map_err(|_| BadLine)?;
+    let is_whole = fraction.bytes().all(|digit| digit == b'0');
+    let is_below = !is_whole && word.starts_with('-');
+    let number = if is_below { whole - 1 } else { whole };
+    let value = |number| PValue::from_whole(number, ptype).map(ScalarValue::Primitive);
+    let Some(value) = value(number).filter(|_| is_whole || value(number + 1).is_some()) else {
+        return Ok(if number < 0 {
+            Literal::Below
+        } else {
+            Literal::Above
+        });
+    };
+    let scalar = Scalar::new_unchecked(dtype.clone(), Some(value));
+    Ok(if is_whole {
+        Literal::Scalar(scalar)
+    } else {
+        Literal::JustAbove(scalar)
+    })
 }
 
 fn and(left: Filter, right: Filter) -> Filter {
@@ -335,13 +357,8 @@ fn never(column: usize) -> Filter {
 
 fn comparison(column: usize, operator: CompareOperator, literal: Literal) -> Filter {
     let is_above = match literal {
-        Literal::Scalar(literal) => {
-            return Filter::Compare {
-                column,
-                operator,
-                literal,
-            };
-        }
+        Literal::Scalar(literal) => return compared(column, operator, literal),
+        Literal::JustAbove(value) => return comparison_above(column, operator, value),
         Literal::Below => false,
         Literal::Above => true,
     };
@@ -352,6 +369,24 @@ fn comparison(column: usize, operator: CompareOperator, literal: Literal) -> Fil
         CompareOperator::Lt | CompareOperator::Lte => is_above,
     };
     negated_if(holds, never(column))
+}
+
+fn compared(column: usize, operator: CompareOperator, literal: Scalar) -> Filter {
+    Filter::Compare {
+        column,
+        operator,
+        literal,
+    }
+}
+
+/// A comparison with a number between a value and the next.
+fn comparison_above(column: usize, operator: CompareOperator, value: Scalar) -> Filter {
+    match operator {
+        CompareOperator::Eq => never(column),
+        CompareOperator::NotEq => not(never(column)),
+        CompareOperator::Gt | CompareOperator::Gte => compared(column, CompareOperator::Gt, value),
+        CompareOperator::Lt | CompareOperator::Lte => compared(column, CompareOperator::Lte, value),
+    }
 }
 
 fn between(column: usize, lower: Literal, upper: Literal) -> Filter {
