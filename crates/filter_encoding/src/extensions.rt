@@ -99,8 +99,10 @@ pub(crate) fn append_extension(
     extension: &ExtDType,
     out: &mut Vec<u8>,
 ) -> Result<(), FilterEncodingError>
-    ensures { Writes (IsPlainExtension (ext_of extension.now).id (ext_of extension.now).metadata (ext_of extension.now).storage)
-        (extension_bytes (ext_of extension.now).id (ext_of extension.now).metadata (ext_of extension.now).storage)
+    ensures { Writes (IsPlainExtension (ext_of extension.now).id (ext_of extension.now).metadata
+        (ext_of extension.now).storage)
+        (extension_bytes (ext_of extension.now).id (ext_of extension.now).metadata
+        (ext_of extension.now).storage)
         result out.old.items out.new.items }
 {
     append_byte(EXTENSION, out)?;

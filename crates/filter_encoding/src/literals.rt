@@ -2,8 +2,9 @@
 
 ghost use Rattle.std.specs.Prelude.{◌≡◌, ◌++◌, IfErr, IfOk, OnErr, OnOk, map};
 ghost use Rattle.std.specs.List.{AllByRecursion};
-ghost use Rattle.filter_encoding.specs.Words.{Appends, AreListed, AreSo, AreValid, HasNoTyped, HasNoVariant, IsFound, IsHeld};
-ghost use Rattle.filter_encoding.specs.Words.{IsHeldCell, IsLiteral, IsPlain, IsPlainCell, IsRefused, IsValid};
+ghost use Rattle.filter_encoding.specs.Words.{Appends, AreListed, AreSo, AreValid, HasNoTyped, HasNoVariant};
+ghost use Rattle.filter_encoding.specs.Words.{IsFound, IsHeld, IsHeldCell, IsLiteral, IsPlain, IsPlainCell};
+ghost use Rattle.filter_encoding.specs.Words.{IsRefused, IsValid};
 ghost use Rattle.filter_encoding.specs.Words.{Reads, ReadsKey, ascending, cell_of, each_bytes, key, left, listed};
 ghost use Rattle.filter_encoding.specs.Words.{literal_bytes, scalar_content, scalar_type, type_of};
 
