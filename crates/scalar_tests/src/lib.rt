@@ -48,4 +48,5 @@ pub mod view_laws;
 mod views;
 #[cfg(test)]
 mod whole_runs;
+pub mod zone_statistics;
 pub mod zones;
