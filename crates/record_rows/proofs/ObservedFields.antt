@@ -5,13 +5,9 @@ use Rattle.std.proofs.lemmas.Grind.{take_at_read}
 use Rattle.std.proofs.lemmas.List.{drop-set-lt, map-append, take-append-drop, take_more_set}
 use Rattle.csv_records.specs.Rows.{Field, field_rows, rows_of}
 use Rattle.record_rows.proofs.Reading.{none_taken, refused_push}
-use Rattle.record_rows.proofs.Walking.{word_refused}
-use Rattle.record_rows.specs.Observed.{AreObserved, IsFull, IsNotObserved, IsObserved, IsStep, IsTakenAs, KeepsValid, ObservesField, SomeIsFull, Step}
-use Rattle.record_rows.specs.Rows.{RefusesFields, RefusesWord, Takes, refused_of}
+use Rattle.record_rows.specs.Observed.{AreObserved, IsFull, IsObserved, IsStep, IsTakenAs, KeepsValid, ObservesField, SomeIsFull, Step}
+use Rattle.record_rows.specs.Rows.{Takes, refused_of}
 use Rattle.record_rows.specs.Walks.{AreTaken, HasWalked, IsNext, ReadsNext, field_of}
-use Rattle.record_rows.specs.declared.errors.ObserveError.{ObserveError}
-use Rattle.record_rows.specs.declared.errors.ObserveError.TheVariants.{Row, TooManyRows}
-use Rattle.record_rows.specs.declared.errors.RowReadError.{RowReadError}
 use Rattle.record_rows.specs.declared.fields.ColumnField.{ColumnField}
 use Rattle.record_rows.specs.declared.fields.FieldWalk.{FieldWalk}
 use Rattle.record_rows.specs.declared.schema.ColumnType.{ColumnType}
@@ -110,16 +106,15 @@ begun_taken d l columns bytes walk old new n h =
     let parts : map (λ (p : Step). p.column) h.steps ++ drop i columns ≡ columns = ap (λ (cs : List ColumnType). cs ++ drop i columns) (sym h.stepped.columns_are) ∙ take-append-drop i columns in
     subst (λ (cs : List ColumnType). AreTaken l cs (map (λ (p : Step). p.field) h.steps)) parts (steps_taken l h.steps (drop i columns) h.stepped.each)
 
--- a column whose field is not observed: its statistics are full, if that is why
-pub not_observed : (d : ℕ) (l : Bool) (columns : List ColumnType) (bytes : List ℕ) (old_walk walk : FieldWalk) (next : ColumnField) (old new : List ColumnStatistics) (s : ColumnStatistics) (n : ℕ) (e : ObserveError) → length old ≡ length columns → (h : Begun d l columns bytes old_walk old new n)
-    → IsNext d columns bytes walk (map (λ (p : Step). p.field) h.steps) next → s ≡ get_or new next.place s → IsNotObserved (RefusesWord l next.column next.place (field_of next)) (IsFull s) e → IsNotObserved (RefusesFields d l columns bytes) (SomeIsFull old) e
-not_observed d l columns bytes old_walk walk next old new s n (Row error) long h is at why = word_refused d l columns bytes walk (map (λ (p : Step). p.field) h.steps) next error is (begun_taken d l columns bytes old_walk old new n h) why
-not_observed d l columns bytes old_walk walk next old new s n TooManyRows long h is at why =
+-- the statistics of the next column are full: some were from the beginning
+pub full_among : (d : ℕ) (l : Bool) (columns : List ColumnType) (bytes : List ℕ) (old_walk walk : FieldWalk) (next : ColumnField) (old new : List ColumnStatistics) (s : ColumnStatistics) (n : ℕ) → length old ≡ length columns → (h : Begun d l columns bytes old_walk old new n)
+    → IsNext d columns bytes walk (map (λ (p : Step). p.field) h.steps) next → s ≡ get_or new next.place s → IsFull s → SomeIsFull old
+full_among d l columns bytes old_walk walk next old new s n long h is at full =
     let i = next.place in
     let here : old_walk.place ≡ i = h.walked.place ∙ sym is.place in
     let stepped : Stepped l columns i old new h.steps = subst (λ (k : ℕ). Stepped l columns k old new h.steps) here h.stepped in
     let within : i < length old = omega (arith, long, is.within) in
-    (s, (i, within, sym (at ∙ (untouched l columns i old new h.steps s within stepped).0)), why)
+    (s, (i, within, sym (at ∙ (untouched l columns i old new h.steps s within stepped).0)), full)
 
 -- behind the last one
 pub ended : (d : ℕ) (l : Bool) (columns : List ColumnType) (bytes : List ℕ) (walk last : FieldWalk) (old new : List ColumnStatistics) (n : ℕ) → length old ≡ length columns → (h : Begun d l columns bytes walk old new n) → ReadsNext d columns bytes last (map (λ (p : Step). p.field) h.steps) None
@@ -141,8 +136,3 @@ ended d l columns bytes walk last old new n long h none =
 
 pub observed_line : (d : ℕ) (l : Bool) (columns : List ColumnType) (line start : List ℕ) (old new : List ColumnStatistics) (n : ℕ) → rows_of d line ≡ field_rows d start → AreObserved d l columns start old new n → IsObserved d l columns line old new n
 observed_line d l columns line start old new n same h = (h.0, same ∙ h.1, h.2)
-
--- the same refusal, whose reason is told of something else
-pub told_of : (Before After : RowReadError → Type 0) (full : Type 0) (e : ObserveError) → ((error : RowReadError) → Before error → After error) → IsNotObserved Before full e → IsNotObserved After full e
-told_of Before After full (Row error) f why = f error why
-told_of Before After full TooManyRows f why = why

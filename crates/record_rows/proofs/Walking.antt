@@ -1,5 +1,5 @@
 -- The fields of a record are walked.
-use Rattle.std.proofs.Common.{◌≡◌, ◌⊎◌, inl, inr, ◌≤◌, ◌<◌, ◌+◌, ℕ, suc, zero, List, [], ◌∷◌, ◌++◌, Bool, false, None, refl, sym, ap, ◌∙◌, subst, length, length-append, drop, append-nil, get_or, arith}
+use Rattle.std.proofs.Common.{◌≡◌, ◌≢◌, ◌⊎◌, inl, inr, ◌≤◌, ◌<◌, ◌+◌, ℕ, suc, zero, List, [], ◌∷◌, ◌++◌, Bool, false, None, refl, sym, ap, ◌∙◌, subst, length, length-append, drop, append-nil, get_or, arith}
 use denote.Ref.{Bor}
 use Rattle.std.specs.List.{onto_first}
 use Rattle.csv.specs.declared.parser.State.TheVariants as st
@@ -66,8 +66,27 @@ first_after l k j cs [] more others fault e taken h =
 first_after l k j [] (f ∷ done) more others fault e taken h = absurd taken
 first_after l k j (c ∷ cs) (f ∷ done) more others fault e taken h = inr (taken.0, first_after l (suc k) j cs done more others fault (omega (arith, e)) taken.1 h)
 
+-- no first fault is want of memory
+never_memory : (l : Bool) (k : ℕ) (cs : List ColumnType) (fs : List Field) (others : List (List Field)) → IsFirstError l k cs fs others errors.Memory → ⊥
+never_memory l k [] [] [] h = h
+never_memory l k [] [] (next ∷ others) h = absurd cc
+never_memory l k [] (f ∷ fs) others h = absurd cc
+never_memory l k (c ∷ cs) [] [] h = absurd cc
+never_memory l k (c ∷ cs) [] (next ∷ others) h = absurd cc
+never_memory l k (c ∷ cs) (f ∷ fs) others h = elim h [ inl told ↦ told.0 | inr more ↦ never_memory l (suc k) cs fs others more.1 ]
+
+-- memory is asked for a field in its column
+pub memory_asked : (d : ℕ) (columns : List ColumnType) (bytes : List ℕ) (place : ℕ) → place < length columns → (columns ≢ []) × (field_rows d bytes ≢ [])
+memory_asked d columns bytes place within =
+    let some = first_field d bytes in
+    (λ (none : columns ≡ []). absurd (omega (arith, within, ap length none)), λ (none : field_rows d bytes ≡ []). absurd (cc (some.3)))
+
+no_first : (l : Bool) (columns : List ColumnType) (rows : List (List Field)) → HasFirstError l columns rows errors.Memory → ⊥
+no_first l columns [] h = h
+no_first l columns (row ∷ others) h = never_memory l 0 columns row others h
+
 fault_told : (l : Bool) (columns : List ColumnType) (rows : List (List Field)) (fault : RowReadError) → HasFirstError l columns rows fault → RefusesRows l columns rows fault
-fault_told l columns rows errors.Memory h = tt
+fault_told l columns rows errors.Memory h = absurd (no_first l columns rows h)
 fault_told l columns rows (errors.Word at found) h = h
 fault_told l columns rows errors.FieldCount h = h
 fault_told l columns rows errors.LoneReturn h = h
@@ -113,7 +132,7 @@ other_row d l columns bytes fields h taken =
 
 -- why a walk does not go on is why there is no row
 pub walk_ends : (d : ℕ) (l : Bool) (columns : List ColumnType) (bytes : List ℕ) (walk : FieldWalk) (fields : List Field) (fault : RowReadError) → HasWalked d columns bytes walk fields → AreTaken l columns fields → EndsWalk walk fault → RefusesFields d l columns bytes fault
-walk_ends d l columns bytes walk fields errors.Memory h taken end = tt
+walk_ends d l columns bytes walk fields errors.Memory h taken end = absurd end
 walk_ends d l columns bytes walk fields (errors.Word column word) h taken end = absurd end
 walk_ends d l columns bytes walk fields errors.FieldCount h taken end =
     let at : HasOtherEnd columns (length fields) walk.follows = subst (λ (n : ℕ). HasOtherEnd columns n walk.follows) h.place (subst (λ (cs : List ColumnType). HasOtherEnd cs walk.place walk.follows) h.columns_are end) in
@@ -135,7 +154,7 @@ field_stands d bytes fields f Nothing h = ([], [], h)
 field_stands d bytes fields f Row h = ([], h.0 ∷ h.1, h.2)
 
 pub word_refused : (d : ℕ) (l : Bool) (columns : List ColumnType) (bytes : List ℕ) (walk : FieldWalk) (fields : List Field) (next : ColumnField) (fault : RowReadError) → IsNext d columns bytes walk fields next → AreTaken l columns fields → RefusesWord l next.column next.place (field_of next) fault → RefusesFields d l columns bytes fault
-word_refused d l columns bytes walk fields next errors.Memory h taken refused = tt
+word_refused d l columns bytes walk fields next errors.Memory h taken refused = memory_asked d columns bytes next.place h.within
 word_refused d l columns bytes walk fields next (errors.Word at found) h taken refused =
     let f = field_of next in
     let rows = field_stands d bytes fields f walk.follows h.walked.follow in

@@ -1,5 +1,5 @@
 -- The row of a record.
-use Rattle.std.specs.Prelude.{◌≡◌, ◌<◌, ◌≤◌, ◌⊎◌, ◌++◌, ℕ, suc, List, [], ◌∷◌, Bool, false, true, count_by, length, slice_index_or}
+use Rattle.std.specs.Prelude.{◌≡◌, ◌≢◌, ◌<◌, ◌≤◌, ◌⊎◌, ◌++◌, ℕ, suc, List, [], ◌∷◌, Bool, false, true, count_by, length, slice_index_or}
 use Rattle.csv_records.specs.Rows.{Field, field_rows, rows_of}
 use Rattle.vortex_dtype.specs.declared.nullability.Nullability.TheVariants.{NonNullable, Nullable}
 use Rattle.vortex_value.specs.Values.Content.{null}
@@ -151,9 +151,9 @@ abbrev pub HasFirstError : Bool → List ColumnType → List (List Field) → Ro
 HasFirstError lenient columns [] fault = ⊥
 HasFirstError lenient columns (row ∷ others) fault = IsFirstError lenient 0 columns row others fault
 
--- why a record with these rows is not taken: no memory was left, or the first fault
+-- why a record with these rows is not taken: no memory was left for a field or its cell, or the first fault
 abbrev pub RefusesRows : Bool → List ColumnType → List (List Field) → RowReadError → Type 0
-RefusesRows lenient columns rows errors.Memory = Unit {0}
+RefusesRows lenient columns rows errors.Memory = (columns ≢ []) × (rows ≢ [])
 RefusesRows lenient columns rows (errors.Word column found) = HasFirstError lenient columns rows (errors.Word column found)
 RefusesRows lenient columns rows errors.FieldCount = HasFirstError lenient columns rows errors.FieldCount
 RefusesRows lenient columns rows errors.LoneReturn = HasFirstError lenient columns rows errors.LoneReturn
