@@ -10,3 +10,4 @@ pub mod ReadColumns
 pub mod RefusedLaws
 pub mod RowLaws
 pub mod SearchLaws
+pub mod StorageLaws
