@@ -9,6 +9,7 @@ use Rattle.jiff_core.proofs.SignedLemmas.{signed_arith}
 use Rattle.jiff_core.specs.Calendar.{IsBetween, days_from_civil, days_in_month}
 use Rattle.jiff_core.specs.declared.civil.date.Date.{Date as CivilDate}
 use Rattle.jiff_core.specs.declared.error.Error.{Error}
+use Rattle.jiff_fmt.proofs.RoundTrip.{parse_date-date_text}
 use Rattle.jiff_fmt.specs.Temporal.{DateParts, date_parts, parse_date}
 use Rattle.logical_types.specs.Clock.{IsTimeWord, time_written}
 use Rattle.logical_types.specs.Days.{IsDayWord}
@@ -18,7 +19,6 @@ use Rattle.logical_types.specs.declared.times.TimeUnit.{TimeUnit}
 use Rattle.logical_types.specs.declared.times.TimeUnit.TheVariants.{Seconds, Milliseconds, Microseconds, Nanoseconds}
 use Rattle.logical_types.specs.declared.logical.LogicalType.{LogicalType}
 use Rattle.logical_types.specs.declared.logical.LogicalType.TheVariants.{Float64, Float32, Decimal, Date, Time, Timestamp}
-use Rattle.logical_types.proofs.DateWords.{read_as}
 use Rattle.vortex_dtype.specs.declared.ptype.PType.TheVariants as ptypes
 use Rattle.vortex_pvalue.specs.Numbers.{in_range}
 use Rattle.vortex_pvalue.specs.RangeLaws.{in_range_back, in_range_true}
@@ -84,30 +84,31 @@ date_to : (word : List ℕ) (z : ℤ) → IsDayWord word z → day_of word (pars
 date_to word z w =
     let d = w.date in
     let p = date_parts d in
-    let year : is_between (neg_ℤ (pos 9999)) (pos 9999) p.year ≡ true = between_to _ _ _ d.year_in in
-    let month : is_between (pos 1) (pos 12) (pos p.month) ≡ true = between_to _ _ _ (omega (arith, signed_arith, d.month_in.0, d.month_in.1), omega (arith, signed_arith, d.month_in.0, d.month_in.1)) in
-    let day : is_between (pos 1) (pos (days_in_month p.year p.month)) (pos p.day) ≡ true = between_to _ _ _ (omega (arith, signed_arith, d.day_in.0, d.day_in.1), omega (arith, signed_arith, d.day_in.0, d.day_in.1)) in
+    let year : is_between (neg_ℤ (pos 9999)) (pos 9999) p.year ≡ true = between_to (neg_ℤ (pos 9999)) (pos 9999) p.year d.year_in in
+    let month : is_between (pos 1) (pos 12) (pos p.month) ≡ true = between_to (pos 1) (pos 12) (pos p.month) (omega (arith, signed_arith, d.month_in.0, d.month_in.1), omega (arith, signed_arith, d.month_in.0, d.month_in.1)) in
+    let day : is_between (pos 1) (pos (days_in_month p.year p.month)) (pos p.day) ≡ true = between_to (pos 1) (pos (days_in_month p.year p.month)) (pos p.day) (omega (arith, signed_arith, d.day_in.0, d.day_in.1), omega (arith, signed_arith, d.day_in.0, d.day_in.1)) in
     let text : bytes_eq (parts_text p) word ≡ true = (bytes_eq-Decides (parts_text p) word).1 (sym w.written) in
-    rw (read_as d word w.written, year, month, day, text) (ap Some w.counted)
+    let read : parse_date word ≡ Ok p = ap parse_date w.written ∙ parse_date-date_text d in
+    rw (read, year, month, day, text) (ap Some w.counted)
 
 date_read : (word : List ℕ) (r : Result DateParts Error) (z : ℤ) → day_of word r ≡ Some z → IsDayWord word z
 date_read word (Err e) z h = absurd cc
 date_read word (Ok p) z h =
     let t = taken (is_date p && bytes_eq (parts_text p) word) (Some (days_from_civil p.year p.month p.day)) z h in
     let parts = and_parts (is_date p) (bytes_eq (parts_text p) word) t.0 in
-    let ymd = and_parts (is_between (neg_ℤ (pos 9999)) (pos 9999) p.year) _ parts.0 in
+    let ymd = and_parts (is_between (neg_ℤ (pos 9999)) (pos 9999) p.year) (is_between (pos 1) (pos 12) (pos p.month) && is_between (pos 1) (pos (days_in_month p.year p.month)) (pos p.day)) parts.0 in
     let md = and_parts (is_between (pos 1) (pos 12) (pos p.month)) (is_between (pos 1) (pos (days_in_month p.year p.month)) (pos p.day)) ymd.1 in
-    let month = between_from _ _ _ md.0 in
-    let day = between_from _ _ _ md.1 in
+    let month : IsBetween (pos 1) (pos 12) (pos p.month) = between_from (pos 1) (pos 12) (pos p.month) md.0 in
+    let day : IsBetween (pos 1) (pos (days_in_month p.year p.month)) (pos p.day) = between_from (pos 1) (pos (days_in_month p.year p.month)) (pos p.day) md.1 in
     let date : CivilDate = record {
       year = p.year;
       month = p.month;
       day = p.day;
-      year_in = between_from _ _ _ ymd.0;
+      year_in = between_from (neg_ℤ (pos 9999)) (pos 9999) p.year ymd.0;
       month_in = (omega (arith, signed_arith, month.0), omega (arith, signed_arith, month.1));
       day_in = (omega (arith, signed_arith, day.0), omega (arith, signed_arith, day.1));
     } in
-    record { date = date; counted = one_value _ z t.1; written = sym ((bytes_eq-Decides (parts_text p) word).0 parts.1) }
+    record { date = date; counted = one_value (days_from_civil p.year p.month p.day) z t.1; written = sym ((bytes_eq-Decides (parts_text p) word).0 parts.1) }
 
 -- ---- times of day and timestamps
 
@@ -119,7 +120,7 @@ time_read unit word None z e h = absurd cc
 time_read unit word (Some m) z e h =
     let t = taken (is_between (pos 0) (pos 86_399_999_999_999) m) (units_in (nanoseconds_of unit) m) z h in
     let same = units_from unit m z t.1 in
-    record { is = subst (IsBetween (pos 0) (pos 86_399_999_999_999)) same (between_from _ _ _ t.0); moment = e ∙ ap Some same }
+    record { is = subst (IsBetween (pos 0) (pos 86_399_999_999_999)) same (between_from (pos 0) (pos 86_399_999_999_999) m t.0); moment = e ∙ ap Some same }
 
 stamp_to : (unit : TimeUnit) (is_zoned : Bool) (word : List ℕ) (z : ℤ) → IsTimestampWord unit is_zoned word z → timestamp_of unit (moment_written is_zoned word) ≡ Some z
 stamp_to unit is_zoned word z w = rw (w.moment, between_to _ _ _ w.is.dated, units_to unit _ z refl, in_range_true ptypes.I64 z w.is.fits) refl
@@ -139,7 +140,7 @@ stamp_read unit is_zoned word (Some m) z e h =
     let k = held (units_in (nanoseconds_of unit) m) z t.1 in
     let same = units_from unit m z k.0 in
     record {
-      is = record { fits = in_range_back ptypes.I64 z k.1; dated = subst (IsBetween low high) same (between_from _ _ _ t.0) };
+      is = record { fits = in_range_back ptypes.I64 z k.1; dated = subst (IsBetween low high) same (between_from low high m t.0) };
       moment = e ∙ ap Some same;
     }
 

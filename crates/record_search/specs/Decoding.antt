@@ -3,12 +3,16 @@ use Rattle.std.specs.Prelude.{◌==◌, ◌&&◌, ◌+◌, ◌*◌, ◌-◌, ◌
 use Rattle.std.specs.List.{list_all}
 use Rattle.std.specs.Int.{w64, from_le_bytes}
 use Rattle.std.specs.Str.{bytes_eq, is_utf8}
+use Rattle.logical_types.specs.Extensions.{storage_type_of}
+use Rattle.logical_types.specs.declared.extensions.StorageType.{StorageType}
+use Rattle.logical_types.specs.declared.extensions.StorageType.TheVariants.{Bytes, I32, I64}
 use Rattle.record_rows.specs.Cells.{column_type}
 use Rattle.record_rows.specs.declared.schema.ColumnType.{ColumnType}
 use Rattle.record_rows.specs.declared.schema.Kind.{Kind}
 use Rattle.record_rows.specs.declared.schema.Kind.TheVariants as kinds
 use Rattle.vortex_dtype.specs.TypeTree.{TypeTree, says_nullable}
 use Rattle.vortex_dtype.specs.declared.nullability.Nullability.{Nullability}
+use Rattle.vortex_dtype.specs.declared.ptype.PType.TheVariants as ptypes
 use Rattle.vortex_pvalue.specs.Numbers.{in_range}
 use Rattle.vortex_row.specs.Keys.{inverted}
 use Rattle.statistics_bytes.specs.Encoding.{encoding}
