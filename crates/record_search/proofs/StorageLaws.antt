@@ -1,6 +1,6 @@
 -- The storage that is computed of a word is the one of the value that it writes.
 use Rattle.std.proofs.Common.{◌≡◌, ◌∙◌, ◌==◌, ◌&&◌, ◌*ℤ◌, ◌/◌, ◌%◌, ℕ, suc, ℤ, pos, negsuc, neg_ℤ, int_lt, Bool, true, false, not, List, Option, None, Some, Result, Ok, Err, if◌then◌else◌, refl, sym, ap, subst, arith}
-use Rattle.std.proofs.lemmas.Bool.{and_from, and_parts}
+use Rattle.std.proofs.lemmas.Bool.{and_parts}
 use Rattle.std.proofs.lemmas.Bool.Decides.{nat_tests}
 use Rattle.std.proofs.lemmas.Int.{ints}
 use Rattle.std.proofs.lemmas.Slice.Eq.{bytes_eq-Decides}
