@@ -109,6 +109,7 @@ begun_taken d l columns bytes walk old new n h =
     let i = walk.place in
     let parts : map (λ (p : Step). p.column) h.steps ++ drop i columns ≡ columns = ap (λ (cs : List ColumnType). cs ++ drop i columns) (sym h.stepped.columns_are) ∙ take-append-drop i columns in
     subst (λ (cs : List ColumnType). AreTaken l cs (map (λ (p : Step). p.field) h.steps)) parts (steps_taken l h.steps (drop i columns) h.stepped.each)
+
 -- a column whose field is not observed: its statistics are full, if that is why
 pub not_observed : (d : ℕ) (l : Bool) (columns : List ColumnType) (bytes : List ℕ) (old_walk walk : FieldWalk) (next : ColumnField) (old new : List ColumnStatistics) (s : ColumnStatistics) (n : ℕ) (e : ObserveError) → length old ≡ length columns → (h : Begun d l columns bytes old_walk old new n)
     → IsNext d columns bytes walk (map (λ (p : Step). p.field) h.steps) next → s ≡ get_or new next.place s → IsNotObserved (RefusesWord l next.column next.place (field_of next)) (IsFull s) e → IsNotObserved (RefusesFields d l columns bytes) (SomeIsFull old) e

@@ -181,7 +181,9 @@ fn reading_in<'a>(matches: &ArgMatches<'a>) -> Reading<'a> {
 /// The command line.
 fn command<'a>(alloc: Global) -> Result<Command<'a>, AllocError> {
     let command = Command::new(alloc, "zone_map")
-        .about("Searches files of records by an index of their zones, and skips those that cannot match")
+        .about(
+            "Searches files of records by an index of their zones, and skips those that cannot match",
+        )
         .after_help(ABOUT_STATUS)
         .subcommand_required(true);
     let command = with_subcommand(command, index_command(alloc))?;
