@@ -9,7 +9,9 @@ use Rattle.vortex_dtype.specs.declared.ptype.PType.{PType}
 use Rattle.vortex_value.specs.Values.Content.{Content, null, string, text, whole}
 use Rattle.vortex_value.specs.Values.Scalars.{IsValid, scalar_content, scalar_type}
 use Rattle.vortex_value.specs.declared.scalars.Scalar.{Scalar}
-use Rattle.record_rows.specs.Cells.{HasMeaning, HasNoCell, HasNoMeaning, HasNoValue, IsBinaryCell, IsCell, IsContent, IsIntegerCell, IsTextCell, IsValueCell, Means, column_type, is_null_field, type_by}
+use Rattle.logical_types.specs.Words.{Writes}
+use Rattle.logical_types.specs.declared.logical.LogicalType.{LogicalType}
+use Rattle.record_rows.specs.Cells.{HasMeaning, HasNoCell, HasNoMeaning, HasNoValue, IsBinaryCell, IsCell, IsContent, IsIntegerCell, IsLogicalCell, IsTextCell, IsValueCell, Means, column_type, is_null_field, stored_content, type_by}
 use Rattle.record_rows.specs.Words.{IsIntegerWord}
 use Rattle.record_rows.specs.declared.schema.ColumnType.{ColumnType}
 use Rattle.record_rows.specs.declared.schema.Kind.{Kind}
@@ -61,6 +63,21 @@ pub binary_value : {E : Type 0} (column : ColumnType) (word : List ℕ) (r : Res
 binary_value column word (Ok o) e h = binary_one column word o e h
 binary_value column word (Err x) e h = tt
 
+logical_none : (k : Kind) (l : LogicalType) (word : List ℕ) → k ≡ kinds.Logical l → ((z : ℤ) → ¬ (Writes l word z)) → (c : Content) → ¬ (Means k word c)
+logical_none k l word e none c = subst (λ (i : Kind). ¬ (Means i word c)) (sym e) (λ h. none h.0 h.1)
+
+logical_one : (column : ColumnType) (l : LogicalType) (word : List ℕ) (o : Option Scalar) → column.kind ≡ kinds.Logical l → MatchOption o ((z : ℤ) → ¬ (Writes l word z)) (IsLogicalCell l column.nullability word) → Answers column word o
+logical_one column l word None e h = logical_none column.kind l word e h
+logical_one column l word (Some x) e h = record {
+  typed = h.typed ∙ ap (λ (k : Kind). type_by k column.nullability) (sym e);
+  content = subst (λ (k : Kind). Means k word (scalar_content x)) (sym e) (h.storage, h.is, h.content);
+  valid = h.valid;
+}
+
+pub logical_value : {E : Type 0} (column : ColumnType) (l : LogicalType) (word : List ℕ) (r : Result (Option Scalar) E) → column.kind ≡ kinds.Logical l → IfOk r (λ o. MatchOption o ((z : ℤ) → ¬ (Writes l word z)) (IsLogicalCell l column.nullability word)) → IfOk r (Answers column word)
+logical_value column l word (Ok o) e h = logical_one column l word o e h
+logical_value column l word (Err x) e h = tt
+
 -- ---- words that mean something
 
 pub integer_meaning : (kind : Kind) (p : PType) (word : List ℕ) (b : Bool) → kind ≡ kinds.Integer p → MatchBool b ((z : ℤ) × IsIntegerWord p word z) ((z : ℤ) → ¬ (IsIntegerWord p word z)) → MatchBool b (HasMeaning kind word) (HasNoMeaning kind word)
@@ -78,6 +95,10 @@ binary_meaning kind word false e h = binary_none kind word e h
 pub binary_meanings : {E : Type 0} (kind : Kind) (word : List ℕ) (r : Result Bool E) → kind ≡ kinds.Binary → IfOk r (λ b. MatchBool b ((bytes : List ℕ) × (decode_of word ≡ Ok bytes)) ((bytes : List ℕ) → ¬ (decode_of word ≡ Ok bytes))) → IfOk r (λ b. MatchBool b (HasMeaning kind word) (HasNoMeaning kind word))
 binary_meanings kind word (Ok b) e h = binary_meaning kind word b e h
 binary_meanings kind word (Err x) e h = tt
+
+pub logical_meaning : (kind : Kind) (l : LogicalType) (word : List ℕ) (b : Bool) → kind ≡ kinds.Logical l → MatchBool b ((z : ℤ) × Writes l word z) ((z : ℤ) → ¬ (Writes l word z)) → MatchBool b (HasMeaning kind word) (HasNoMeaning kind word)
+logical_meaning kind l word true e h = (stored_content l h.0, subst (λ (k : Kind). Means k word (stored_content l h.0)) (sym e) (h.0, h.1, refl))
+logical_meaning kind l word false e h = logical_none kind l word e h
 
 -- ---- nulls
 

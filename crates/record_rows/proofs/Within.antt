@@ -5,6 +5,10 @@ use Rattle.std.proofs.lemmas.Cmp.{int_ranked}
 use Rattle.std.specs.Ordering.{int_cmp}
 use Rattle.std.specs.declared.cmp.Ordering.TheVariants.{Equal, Greater, Less}
 use Rattle.csv_records.specs.Rows.{Field}
+use Rattle.logical_scalars.specs.Stored.{raw_storage}
+use Rattle.logical_types.specs.Extensions.{storage_type_of}
+use Rattle.logical_types.specs.declared.extensions.StorageType.{StorageType}
+use Rattle.logical_types.specs.declared.extensions.StorageType.TheVariants.{Bytes, I32, I64}
 use Rattle.record_rows.specs.Cells.{IsContent, Means, column_type, is_null_field}
 use Rattle.record_rows.specs.Rows.{IsTaken}
 use Rattle.record_rows.specs.declared.schema.ColumnType.{ColumnType}
@@ -29,7 +33,7 @@ use Rattle.vortex_value.specs.Equality.{same_type}
 use Rattle.vortex_value.specs.Lemmas.EqualityLaws.{same_type-Decides}
 use Rattle.vortex_value.specs.Order.{IsReversed, IsTransitive, order}
 use Rattle.vortex_value.specs.Validity.{Valid}
-use Rattle.vortex_value.specs.Values.Content.{Content, text, whole}
+use Rattle.vortex_value.specs.Values.Content.{Content, content, text, whole}
 use Rattle.vortex_value.specs.Values.Scalars.{IsMadeOf, IsValid, scalar_content, scalar_raw, scalar_type}
 use Rattle.vortex_value.specs.declared.scalars.Scalar.{Scalar}
 use Rattle.vortex_value.specs.declared.values.ScalarValue.{the_lemmas as value_lemmas}
@@ -124,10 +128,16 @@ some_field : (n : Nullability) (word : List ℕ) (q : Bool) → 0 < length word 
 some_field Nullable word q h = rw (ne_eqb (length word) 0 (λ e. omega (arith, h, e))) refl
 some_field NonNullable word q h = refl
 
+stored_no_null : (k : StorageType) (z : ℤ) → is_null_content (content (raw_storage k z)) ≡ false
+stored_no_null I32 z = refl
+stored_no_null I64 z = refl
+stored_no_null Bytes z = refl
+
 no_null : (kind : Kind) (word : List ℕ) (c : Content) → Means kind word c → is_null_content c ≡ false
 no_null (kinds.Integer k) word c h = ap is_null_content h.2
 no_null kinds.Utf8 word c h = ap is_null_content h.1
 no_null kinds.Binary word c h = ap is_null_content h.2
+no_null (kinds.Logical l) word c h = ap is_null_content h.2 ∙ stored_no_null (storage_type_of l) h.0
 
 pub word_observed : IsReversed order → IsTransitive order → (column : ColumnType) (word : List ℕ) (s t : Known) (l u v : KnownBound) → 0 < length word → s.row_count + 1 < 2 ^ 64 → s.lower ≡ Some l → s.upper ≡ Some u → may_be_value s ≡ true → TakesWord column word l u v → t ≡ with_upper s v → ObservesWord column word s t
 word_observed reversed transitive column word s t l u v some fits lower_is upper_is valued h is = λ lenient q.

@@ -63,6 +63,7 @@ fn take_word(column: ColumnType, word: &[u8], lower: &Bound, upper: &mut Bound) 
         Kind::Integer(ptype) => take_integer(ptype, column.nullability, word, lower, upper),
         Kind::Utf8 => is_text_inside(word, lower, upper),
         Kind::Binary => false,
+        Kind::Logical(_) => false,
     }
 }
 

@@ -18,6 +18,7 @@ mod texts;
 mod words;
 
 pub use errors::{ObserveError, RowReadError};
+pub use logical_types::{DecimalType, LogicalType, TimeUnit};
 pub use observing::observe_record;
 pub use rows::{read_cells, read_row};
 pub use schema::{ColumnType, Kind, Schema, dtype_of};

@@ -1,10 +1,13 @@
 //! How the records of a file are read as rows.
 
-ghost use Rattle.std.specs.Prelude.{◌≡◌};
+ghost use Rattle.std.specs.Prelude.{◌≡◌, IfOk};
 ghost use Rattle.vortex_dtype.specs.TypeOf.{type_of};
 ghost use Rattle.record_rows.specs.Cells.{column_type};
 
 use csv_records::Delimiter;
+use logical_scalars::dtype_of_logical_type;
+use logical_types::LogicalType;
+use std::alloc::{AllocError, Global};
 use vortex_dtype::{DType, Nullability, PType};
 
 /// What the words of a column are.
@@ -16,6 +19,8 @@ pub enum Kind {
     Utf8,
     /// Bytes, as hexadecimal digits, two for a byte.
     Binary,
+    /// Values of a logical type: floats, decimals, dates, times of day or timestamps.
+    Logical(LogicalType),
 }
 
 /// The type of a column.
@@ -39,12 +44,17 @@ pub struct Schema {
 }
 
 /// The type of the cells of a column.
-pub fn dtype_of(column: ColumnType) -> DType
-    ensures { type_of result ≡ column_type column }
+pub fn dtype_of(alloc: Global, column: ColumnType) -> Result<DType, AllocError>
+    ensures { IfOk result (λ dtype. type_of dtype ≡ column_type column) }
 {
+    let nullability = column.nullability;
     match column.kind {
-        Kind::Integer(ptype) => DType::Primitive(ptype, column.nullability),
-        Kind::Utf8 => DType::Utf8(column.nullability),
-        Kind::Binary => DType::Binary(column.nullability),
+        Kind::Integer(ptype) => Ok(DType::Primitive(ptype, nullability)),
+        Kind::Utf8 => Ok(DType::Utf8(nullability)),
+        Kind::Binary => Ok(DType::Binary(nullability)),
+        Kind::Logical(logical) => match dtype_of_logical_type(alloc, logical, nullability) {
+            Ok(dtype) => Ok(dtype),
+            Err(_) => Err(AllocError),
+        },
     }
 }

@@ -30,7 +30,8 @@ pub(crate) fn take_field(
             if !may_be_null(is_lenient, field.column) {
                 return Err(word_fault(alloc, field));
             }
-            Ok((null_of(field.column), true))
+            let null = null_of(alloc, field.column)?;
+            Ok((null, true))
         }
     }
 }

@@ -11,3 +11,4 @@ pub mod ReadColumns
 pub mod RefusedLaws
 pub mod RowLaws
 pub mod SearchLaws
+pub mod StorageLaws

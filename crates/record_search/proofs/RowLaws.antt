@@ -1,6 +1,7 @@
 -- The row that is read of a record is the one that its definition computes.
 use Rattle.std.proofs.Common.{◌≡◌, ◌<◌, ℕ, ℤ, zero, suc, List, [], ◌∷◌, Bool, true, false, if◌then◌else◌, Option, None, Some, Result, Ok, Err, MatchBool, refl, sym, ap, ◌∙◌, subst, length, map, arith, get_or, nat_lt}
 use Rattle.std.specs.List.{filter_map, list_all}
+use Rattle.std.specs.Option.{option_map}
 use Rattle.std.specs.Char.{digit_value, is_digit}
 use Rattle.std.specs.Str.{is_utf8}
 use Rattle.std.specs.Str.Parse.{AllDigits, IsNumeral, signed_digits_value, without_leading_sign}
@@ -9,7 +10,8 @@ use Rattle.std.proofs.lemmas.Str.{IsUtf8-from_is_utf8, is_utf8-from_IsUtf8}
 use Rattle.hex.specs.Hex.{decode_of}
 use Rattle.hex.specs.declared.error.FromHexError.{FromHexError}
 use Rattle.csv_records.specs.Rows.{Field, rows_of}
-use Rattle.record_rows.specs.Cells.{HasNoCell, Means, column_type, is_null_field}
+use Rattle.logical_types.specs.declared.logical.LogicalType.{LogicalType}
+use Rattle.record_rows.specs.Cells.{HasNoCell, Means, column_type, is_null_field, stored_content}
 use Rattle.record_rows.specs.Rows.{AreCells, IsRow, IsTaken}
 use Rattle.record_rows.specs.Words.{IsIntegerWord}
 use Rattle.record_rows.specs.declared.schema.ColumnType.{ColumnType}
@@ -28,6 +30,8 @@ use Rattle.vortex_value.specs.Values.Scalars.{scalar_content, scalar_type}
 use Rattle.vortex_value.specs.declared.scalars.Scalar.{Scalar}
 use Rattle.record_search.specs.Contents.{bytes_content, cell_before, cells_of, field_content, is_integer_word, is_numeral, only_row, or_null, row_of, word_content}
 use Rattle.record_search.specs.Searched.{AreCellsOf, AreRowsOf}
+use Rattle.record_search.specs.Storages.{storage_in}
+use Rattle.record_search.proofs.StorageLaws.{storage_from, storage_to}
 
 -- ---- words
 
@@ -69,6 +73,11 @@ word_to : (kind : Kind) (word : List ℕ) (c : Content) → Means kind word c �
 word_to (kinds.Integer k) word c h = rw (integer_to k word h.0 h.1) (ap (λ (z : ℤ). Some (whole z)) h.1.value ∙ ap (λ (d : Content). Some d) (sym h.2))
 word_to kinds.Utf8 word c h = rw (is_utf8-from_IsUtf8 word h.0) (ap (λ (d : Content). Some d) (sym h.1))
 word_to kinds.Binary word c h = ap bytes_content h.1 ∙ ap (λ (d : Content). Some d) (sym h.2)
+word_to (kinds.Logical l) word c h = ap (option_map (stored_content l)) (storage_to l word h.0 h.1) ∙ ap (λ (d : Content). Some d) (sym h.2)
+
+stored_from : (l : LogicalType) (o : Option ℤ) (c : Content) → option_map (stored_content l) o ≡ Some c → (z : ℤ) × (o ≡ Some z) × (c ≡ stored_content l z)
+stored_from l (Some z) c e = (z, refl, cc)
+stored_from l None c e = absurd cc
 
 word_from : (kind : Kind) (word : List ℕ) (c : Content) → word_content kind word ≡ Some c → Means kind word c
 word_from (kinds.Integer k) word c e =
@@ -78,6 +87,7 @@ word_from kinds.Utf8 word c e =
     let p = chosen_content (is_utf8 word) (text word) c e in
     (IsUtf8-from_is_utf8 word p.0, sym p.1)
 word_from kinds.Binary word c e = bytes_from (decode_of word) c e
+word_from (kinds.Logical l) word c e = let p = stored_from l (storage_in l word) c e in (p.0, storage_from l word p.0 p.1, p.2)
 
 -- ---- fields
 

@@ -5,4 +5,5 @@ pub mod Laws
 pub mod Named
 pub mod Refused
 pub mod Searched
+pub mod Storages
 pub mod Words

@@ -90,7 +90,8 @@ fn read_column(
     ensures { IfOk result (λ is. (if is then Some (known statistics.new) else None) ≡
         statistics_in column bytes.now) }
 {
-    match decode_piece_into(alloc, &dtype_of(column), bytes, statistics) {
+    let dtype = dtype_of(alloc, column)?;
+    match decode_piece_into(alloc, &dtype, bytes, statistics) {
         Ok(()) => Ok(true),
         Err(error) => match error {
             StatisticsError::OutOfMemory => Err(AllocError),

@@ -3,6 +3,7 @@ use Rattle.std.specs.Prelude.{◌<◌, ◌^◌, ◌++◌, ◌∷◌, ℕ, List, 
 use Rattle.std.specs.List.{AllByRecursion, flat_map}
 use Rattle.std.specs.Fmt.{decimal}
 use Rattle.zone_map.specs.Names.{IsName}
+use Rattle.logical_types.specs.Names.{name_of}
 use Rattle.record_rows.specs.declared.schema.ColumnType.{ColumnType}
 use Rattle.record_rows.specs.declared.schema.Kind.{Kind}
 use Rattle.record_rows.specs.declared.schema.Kind.TheVariants as kinds
@@ -44,6 +45,14 @@ kind_word (kinds.Integer ptypes.U32) = codes "u32"
 kind_word (kinds.Integer ptypes.U64) = codes "u64"
 kind_word kinds.Utf8 = codes "utf8"
 kind_word kinds.Binary = codes "binary"
+kind_word (kinds.Logical logical) = name_of logical
+
+-- a kind without a logical type
+abbrev pub IsPlain : Kind → Type 0
+IsPlain (kinds.Integer ptype) = Unit {0}
+IsPlain kinds.Utf8 = Unit {0}
+IsPlain kinds.Binary = Unit {0}
+IsPlain (kinds.Logical logical) = ⊥
 
 -- a question mark if the column takes nulls
 abbrev pub mark_of : Nullability → List ℕ

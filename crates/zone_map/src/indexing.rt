@@ -1,6 +1,5 @@
 //! An index is made, or extended.
 
-use crate::column_words::columns_text;
 use crate::commands::IndexRequest;
 use crate::files::{at_place, buffered, from_place, open_file, save, stamp_of};
 use crate::grown::{end_of, grown_end};
@@ -64,10 +63,10 @@ fn made(
         setup,
         start,
         first: _,
+        told,
     } = prepared;
     let setup = with_sizes(setup, request);
-    if request.reading.columns.is_none() {
-        let text = columns_text(rt.alloc(), &setup.columns)?;
+    if let Some(text) = told {
         let _ = eprintln!(rt; "columns {text}");
     }
     Ok(Unfinished {

@@ -1,10 +1,12 @@
 //! Why the program stops.
 
-use crate::column_words::NamedColumn;
+use crate::column_words::{NamedColumn, is_plain_name};
 use filter_sql::ParseError;
+use record_rows::Kind;
 use std::alloc::{AllocError, AllocFailed, Global};
 use std::fmt::{self, Display, Formatter, Write};
 use std::{io, str};
+use vortex_dtype::Nullability;
 use zone_index::{Cause, EncodingError, SearchError};
 
 /// Why the program stopped: what it says on standard error.
@@ -134,6 +136,8 @@ pub struct BadFilter<'a> {
     pub text: &'a str,
     /// The columns that it is over.
     pub columns: &'a str,
+    /// The column whose name is nearest to the one that no column has.
+    pub nearest: Option<&'a str>,
     /// What is wrong.
     pub error: ParseError,
 }
@@ -147,7 +151,12 @@ impl Display for BadFilter<'_> {
         write_pointed(f, self.text, place)?;
         write!(f, "^ {}", self.error)?;
         match self.error {
-            ParseError::NoColumn { offset: _ } => write!(f, "\nthe columns are {}", self.columns),
+            ParseError::NoColumn { offset: _ } => {
+                if let Some(name) = self.nearest {
+                    write!(f, "; did you mean {name}?")?;
+                }
+                write!(f, "\nthe columns are {}", self.columns)
+            }
             _ => Ok(()),
         }
     }
@@ -219,7 +228,45 @@ fn write_bad_word<W: Write>(
         write!(f, ", {},", named.name)?;
     }
     f.write_str(" does not take ")?;
-    write_word(f, word)
+    write_word(f, word)?;
+    match columns.get(column as usize) {
+        Some(named) => write_ways_out(f, named),
+        None => Ok(()),
+    }
+}
+
+/// Writes what takes a word that a column does not: a column of text, or a null in its place.
+fn write_ways_out<W: Write>(f: &mut Formatter<W>, named: &NamedColumn) -> fmt::Result {
+    let is_text = match named.column.kind {
+        Kind::Utf8 => true,
+        _ => false,
+    };
+    let takes_null = named.column.nullability == Nullability::Nullable;
+    if !is_text {
+        f.write_str("; --columns '")?;
+        write_name(f, &named.name)?;
+        f.write_str(if takes_null { " utf8?" } else { " utf8" })?;
+        f.write_str("' takes it as text")?;
+    }
+    if takes_null {
+        f.write_str("; --lenient takes it as a null")?;
+    }
+    Ok(())
+}
+
+/// Writes the name of a column as `--columns` reads it.
+fn write_name<W: Write>(f: &mut Formatter<W>, name: &str) -> fmt::Result {
+    if is_plain_name(name) {
+        return f.write_str(name);
+    }
+    f.write_str("\"")?;
+    for letter in name.chars() {
+        if letter == '"' {
+            f.write_str("\"")?;
+        }
+        write!(f, "{letter}")?;
+    }
+    f.write_str("\"")
 }
 
 /// Writes a word: as text in quotes where it is UTF-8, else as hexadecimal digits.

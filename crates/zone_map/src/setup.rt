@@ -97,10 +97,9 @@ impl Setup {
     pub fn filter_columns(&self, alloc: Global) -> Result<Vec<Column>, AllocError> {
         let mut columns = Vec::new(alloc);
         for named in &self.columns {
-            columns.push(Column {
-                name: String::from_str(alloc, &named.name)?,
-                dtype: dtype_of(named.column),
-            })?;
+            let name = String::from_str(alloc, &named.name)?;
+            let dtype = dtype_of(alloc, named.column)?;
+            columns.push(Column { name, dtype })?;
         }
         Ok(columns)
     }
