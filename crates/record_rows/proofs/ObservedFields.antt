@@ -7,6 +7,7 @@ use Rattle.csv_records.specs.Rows.{Field, field_rows, rows_of}
 use Rattle.record_rows.proofs.Reading.{none_taken, refused_push}
 use Rattle.record_rows.proofs.Walking.{word_refused}
 use Rattle.record_rows.specs.Observed.{AreObserved, IsFull, IsNotObserved, IsObserved, IsStep, IsTakenAs, KeepsValid, ObservesField, SomeIsFull, Step}
+use Rattle.record_rows.specs.Readings.{Reading}
 use Rattle.record_rows.specs.Rows.{RefusesFields, RefusesWord, Takes, refused_of}
 use Rattle.record_rows.specs.Walks.{AreTaken, HasWalked, IsNext, ReadsNext, field_of}
 use Rattle.record_rows.specs.declared.errors.ObserveError.{ObserveError}
@@ -24,7 +25,7 @@ all_push P [] s h p = (p, tt)
 all_push P (t ∷ steps) s h p = (h.0, all_push P steps s h.1 p)
 
 -- the steps of the columns so far; the statistics of the others are as they were
-pub record Stepped (l : Bool) (columns : List ColumnType) (i : ℕ) (old new : List ColumnStatistics) (steps : List Step) : Type 0 where
+pub record Stepped (l : Reading) (columns : List ColumnType) (i : ℕ) (old new : List ColumnStatistics) (steps : List Step) : Type 0 where
   pub columns_are : take i columns ≡ map (λ s. s.column) steps
   pub old_are : take i old ≡ map (λ s. s.old) steps
   pub new_are : take i new ≡ map (λ s. s.new) steps
@@ -36,14 +37,14 @@ first_same : (xs ys : List ColumnStatistics) (x y : ColumnStatistics) → x ∷ 
 first_same xs ys x y e = (cc, cc)
 
 -- the statistics of this column and of those behind it are as they were
-untouched : (l : Bool) (columns : List ColumnType) (i : ℕ) (old new : List ColumnStatistics) (steps : List Step) (s : ColumnStatistics) → i < length old → Stepped l columns i old new steps
+untouched : (l : Reading) (columns : List ColumnType) (i : ℕ) (old new : List ColumnStatistics) (steps : List Step) (s : ColumnStatistics) → i < length old → Stepped l columns i old new steps
     → (get_or new i s ≡ get_or old i s) × (drop (suc i) new ≡ drop (suc i) old)
 untouched l columns i old new steps s within before =
     let reaches : i < length new = omega (arith, before.long) in
     first_same _ _ (get_or new i s) (get_or old i s) (sym (drop-cons new i s reaches) ∙ before.others ∙ drop-cons old i s within)
 
 -- a column more
-step_more : (l : Bool) (columns : List ColumnType) (i : ℕ) (old new after : List ColumnStatistics) (steps : List Step) (k : ColumnType) (f : Field) (s t : ColumnStatistics) (b : Bool) → i < length columns → length old ≡ length columns → Stepped l columns i old new steps
+step_more : (l : Reading) (columns : List ColumnType) (i : ℕ) (old new after : List ColumnStatistics) (steps : List Step) (k : ColumnType) (f : Field) (s t : ColumnStatistics) (b : Bool) → i < length columns → length old ≡ length columns → Stepped l columns i old new steps
     → s ≡ get_or new i s → after ≡ set new i t → KeepsValid s t → (h : ObservesField l (get_or columns i k) f (known s) (known t) b)
     → Stepped l columns (i + 1) old after (steps ++ record { column = get_or columns i k; field = f; content = h.0; flag = b; old = s; new = t } ∷ [])
 step_more l columns i old new after steps k f s t b inside long before at put valid h =
@@ -63,13 +64,13 @@ step_more l columns i old new after steps k f s t b inside long before at put va
     }
 
 -- the fields so far are observed
-pub record Begun (d : ℕ) (l : Bool) (columns : List ColumnType) (bytes : List ℕ) (walk : FieldWalk) (old new : List ColumnStatistics) (refused : ℕ) : Type 0 where
+pub record Begun (d : ℕ) (l : Reading) (columns : List ColumnType) (bytes : List ℕ) (walk : FieldWalk) (old new : List ColumnStatistics) (refused : ℕ) : Type 0 where
   pub steps : List Step
   pub walked : HasWalked d columns bytes walk (map (λ s. s.field) steps)
   pub stepped : Stepped l columns walk.place old new steps
   pub count : refused ≡ refused_of (map (λ s. s.flag) steps)
 
-pub begun : (d : ℕ) (l : Bool) (columns : List ColumnType) (bytes : List ℕ) (walk : FieldWalk) (old : List ColumnStatistics) → HasWalked d columns bytes walk [] → Begun d l columns bytes walk old old 0
+pub begun : (d : ℕ) (l : Reading) (columns : List ColumnType) (bytes : List ℕ) (walk : FieldWalk) (old : List ColumnStatistics) → HasWalked d columns bytes walk [] → Begun d l columns bytes walk old old 0
 begun d l columns bytes walk old h = record {
   steps = [];
   walked = h;
@@ -78,7 +79,7 @@ begun d l columns bytes walk old h = record {
 }
 
 -- a field more
-pub more : (d : ℕ) (l : Bool) (columns : List ColumnType) (bytes : List ℕ) (old_walk walk : FieldWalk) (next : ColumnField) (old new after : List ColumnStatistics) (s t : ColumnStatistics) (b : Bool) (n m : ℕ) → length old ≡ length columns → (h : Begun d l columns bytes old_walk old new n)
+pub more : (d : ℕ) (l : Reading) (columns : List ColumnType) (bytes : List ℕ) (old_walk walk : FieldWalk) (next : ColumnField) (old new after : List ColumnStatistics) (s t : ColumnStatistics) (b : Bool) (n m : ℕ) → length old ≡ length columns → (h : Begun d l columns bytes old_walk old new n)
     → IsNext d columns bytes walk (map (λ (p : Step). p.field) h.steps) next → s ≡ get_or new next.place s → after ≡ set new next.place t → KeepsValid s t → ObservesField l next.column (field_of next) (known s) (known t) b → m ≡ n + cond b 1 0 → Begun d l columns bytes walk old after m
 more d l columns bytes old_walk walk next old new after s t b n m long h is at put valid observes counted =
     let fields = map (λ (p : Step). p.field) h.steps in
@@ -95,23 +96,23 @@ more d l columns bytes old_walk walk next old new after s t b n m long h is at p
       count = refused_push (map (λ (p : Step). p.flag) h.steps) b n m h.count counted ∙ ap refused_of (sym (map-append (λ (p : Step). p.flag) h.steps (step ∷ [])));
     }
 
-as_taken : (l : Bool) (c : ColumnType) (f : Field) (x : Content) (b : Bool) → IsTakenAs l c f x b → Takes l c f
+as_taken : (l : Reading) (c : ColumnType) (f : Field) (x : Content) (b : Bool) → IsTakenAs l c f x b → Takes l c f
 as_taken l c f x false h = (false, (x, h))
 as_taken l c f x true h = (true, (h.0, h.1, h.2))
 
-steps_taken : (l : Bool) (steps : List Step) (more : List ColumnType) → AllByRecursion (IsStep l) steps → AreTaken l (map (λ (p : Step). p.column) steps ++ more) (map (λ (p : Step). p.field) steps)
+steps_taken : (l : Reading) (steps : List Step) (more : List ColumnType) → AllByRecursion (IsStep l) steps → AreTaken l (map (λ (p : Step). p.column) steps ++ more) (map (λ (p : Step). p.field) steps)
 steps_taken l [] more h = none_taken l more
 steps_taken l (s ∷ steps) more h = (as_taken l s.column s.field s.content s.flag h.0.0, steps_taken l steps more h.1)
 
 -- the fields so far are taken
-pub begun_taken : (d : ℕ) (l : Bool) (columns : List ColumnType) (bytes : List ℕ) (walk : FieldWalk) (old new : List ColumnStatistics) (n : ℕ) → (h : Begun d l columns bytes walk old new n) → AreTaken l columns (map (λ (p : Step). p.field) h.steps)
+pub begun_taken : (d : ℕ) (l : Reading) (columns : List ColumnType) (bytes : List ℕ) (walk : FieldWalk) (old new : List ColumnStatistics) (n : ℕ) → (h : Begun d l columns bytes walk old new n) → AreTaken l columns (map (λ (p : Step). p.field) h.steps)
 begun_taken d l columns bytes walk old new n h =
     let i = walk.place in
     let parts : map (λ (p : Step). p.column) h.steps ++ drop i columns ≡ columns = ap (λ (cs : List ColumnType). cs ++ drop i columns) (sym h.stepped.columns_are) ∙ take-append-drop i columns in
     subst (λ (cs : List ColumnType). AreTaken l cs (map (λ (p : Step). p.field) h.steps)) parts (steps_taken l h.steps (drop i columns) h.stepped.each)
 
 -- a column whose field is not observed: its statistics are full, if that is why
-pub not_observed : (d : ℕ) (l : Bool) (columns : List ColumnType) (bytes : List ℕ) (old_walk walk : FieldWalk) (next : ColumnField) (old new : List ColumnStatistics) (s : ColumnStatistics) (n : ℕ) (e : ObserveError) → length old ≡ length columns → (h : Begun d l columns bytes old_walk old new n)
+pub not_observed : (d : ℕ) (l : Reading) (columns : List ColumnType) (bytes : List ℕ) (old_walk walk : FieldWalk) (next : ColumnField) (old new : List ColumnStatistics) (s : ColumnStatistics) (n : ℕ) (e : ObserveError) → length old ≡ length columns → (h : Begun d l columns bytes old_walk old new n)
     → IsNext d columns bytes walk (map (λ (p : Step). p.field) h.steps) next → s ≡ get_or new next.place s → IsNotObserved (RefusesWord l next.column next.place (field_of next)) (IsFull s) e → IsNotObserved (RefusesFields d l columns bytes) (SomeIsFull old) e
 not_observed d l columns bytes old_walk walk next old new s n (Row error) long h is at why = word_refused d l columns bytes walk (map (λ (p : Step). p.field) h.steps) next error is (begun_taken d l columns bytes old_walk old new n h) why
 not_observed d l columns bytes old_walk walk next old new s n TooManyRows long h is at why =
@@ -122,7 +123,7 @@ not_observed d l columns bytes old_walk walk next old new s n TooManyRows long h
     (s, (i, within, sym (at ∙ (untouched l columns i old new h.steps s within stepped).0)), why)
 
 -- behind the last one
-pub ended : (d : ℕ) (l : Bool) (columns : List ColumnType) (bytes : List ℕ) (walk last : FieldWalk) (old new : List ColumnStatistics) (n : ℕ) → length old ≡ length columns → (h : Begun d l columns bytes walk old new n) → ReadsNext d columns bytes last (map (λ (p : Step). p.field) h.steps) None
+pub ended : (d : ℕ) (l : Reading) (columns : List ColumnType) (bytes : List ℕ) (walk last : FieldWalk) (old new : List ColumnStatistics) (n : ℕ) → length old ≡ length columns → (h : Begun d l columns bytes walk old new n) → ReadsNext d columns bytes last (map (λ (p : Step). p.field) h.steps) None
     → AreObserved d l columns bytes old new n
 ended d l columns bytes walk last old new n long h none =
     let past : length columns ≤ walk.place = omega (arith, h.walked.place, none.1) in (
@@ -139,7 +140,7 @@ ended d l columns bytes walk last old new n long h none =
       },
     )
 
-pub observed_line : (d : ℕ) (l : Bool) (columns : List ColumnType) (line start : List ℕ) (old new : List ColumnStatistics) (n : ℕ) → rows_of d line ≡ field_rows d start → AreObserved d l columns start old new n → IsObserved d l columns line old new n
+pub observed_line : (d : ℕ) (l : Reading) (columns : List ColumnType) (line start : List ℕ) (old new : List ColumnStatistics) (n : ℕ) → rows_of d line ≡ field_rows d start → AreObserved d l columns start old new n → IsObserved d l columns line old new n
 observed_line d l columns line start old new n same h = (h.0, same ∙ h.1, h.2)
 
 -- the same refusal, whose reason is told of something else

@@ -8,6 +8,7 @@ use Rattle.csv_records.specs.Rows.{Field, field_rows}
 use Rattle.csv_records.specs.declared.fields.Follows.{Follows}
 use Rattle.csv_records.specs.declared.fields.Follows.TheVariants.{Another, Nothing, Row}
 use Rattle.csv_records.proofs.RowCuts.{first_field}
+use Rattle.record_rows.specs.Readings.{Reading}
 use Rattle.record_rows.specs.Rows.{HasFirstError, IsFirstError, IsUntaken, RefusesFields, RefusesRows, RefusesWord, TellsWord}
 use Rattle.record_rows.specs.Walks.{AreFollowedBy, AreTaken, EndsWalk, HasOtherEnd, HasWalked, IsNext, ReadsNext, field_of, with_front}
 use Rattle.record_rows.specs.declared.errors.RowReadError.{RowReadError}
@@ -59,47 +60,47 @@ is_last d columns bytes walk new fields h none past = (subst (AreFollowedBy d by
 -- ---- the first fault
 
 -- fields that were taken are passed over
-first_after : (l : Bool) (k j : ℕ) (cs : List ColumnType) (done more : List Field) (others : List (List Field)) (fault : RowReadError) → j ≡ k + length done → AreTaken l cs done → IsFirstError l j (drop (length done) cs) more others fault → IsFirstError l k cs (done ++ more) others fault
+first_after : (l : Reading) (k j : ℕ) (cs : List ColumnType) (done more : List Field) (others : List (List Field)) (fault : RowReadError) → j ≡ k + length done → AreTaken l cs done → IsFirstError l j (drop (length done) cs) more others fault → IsFirstError l k cs (done ++ more) others fault
 first_after l k j cs [] more others fault e taken h =
     let same : j ≡ k = omega (arith, e) in
     subst (λ (n : ℕ). IsFirstError l n cs more others fault) same h
 first_after l k j [] (f ∷ done) more others fault e taken h = absurd taken
 first_after l k j (c ∷ cs) (f ∷ done) more others fault e taken h = inr (taken.0, first_after l (suc k) j cs done more others fault (omega (arith, e)) taken.1 h)
 
-fault_told : (l : Bool) (columns : List ColumnType) (rows : List (List Field)) (fault : RowReadError) → HasFirstError l columns rows fault → RefusesRows l columns rows fault
+fault_told : (l : Reading) (columns : List ColumnType) (rows : List (List Field)) (fault : RowReadError) → HasFirstError l columns rows fault → RefusesRows l columns rows fault
 fault_told l columns rows errors.Memory h = tt
 fault_told l columns rows (errors.Word at found) h = h
 fault_told l columns rows errors.FieldCount h = h
 fault_told l columns rows errors.LoneReturn h = h
 
-first_told : (l : Bool) (columns : List ColumnType) (fields more : List Field) (rows others : List (List Field)) (fault : RowReadError) → rows ≡ (fields ++ more) ∷ others → AreTaken l columns fields → IsFirstError l (length fields) (drop (length fields) columns) more others fault → RefusesRows l columns rows fault
+first_told : (l : Reading) (columns : List ColumnType) (fields more : List Field) (rows others : List (List Field)) (fault : RowReadError) → rows ≡ (fields ++ more) ∷ others → AreTaken l columns fields → IsFirstError l (length fields) (drop (length fields) columns) more others fault → RefusesRows l columns rows fault
 first_told l columns fields more rows others fault is taken h =
     fault_told l columns rows fault (subst (λ (r : List (List Field)). HasFirstError l columns r fault) (sym is) (first_after l 0 (length fields) columns fields more others fault (omega arith) taken h))
 
 -- a field too many, a field too few, and another row
-long_fault : (l : Bool) (n : ℕ) (cs : List ColumnType) (i : ℕ) (f : Field) (fs : List Field) (others : List (List Field)) → length cs ≤ i → IsFirstError l n (drop i cs) (f ∷ fs) others errors.FieldCount
+long_fault : (l : Reading) (n : ℕ) (cs : List ColumnType) (i : ℕ) (f : Field) (fs : List Field) (others : List (List Field)) → length cs ≤ i → IsFirstError l n (drop i cs) (f ∷ fs) others errors.FieldCount
 long_fault l n [] zero f fs others past = refl
 long_fault l n [] (suc i) f fs others past = refl
 long_fault l n (c ∷ cs) zero f fs others past = absurd (omega (arith, past))
 long_fault l n (c ∷ cs) (suc i) f fs others past = long_fault l n cs i f fs others (omega (arith, past))
 
-short_fault : (l : Bool) (n : ℕ) (cs : List ColumnType) (i : ℕ) → i < length cs → IsFirstError l n (drop i cs) [] [] errors.FieldCount
+short_fault : (l : Reading) (n : ℕ) (cs : List ColumnType) (i : ℕ) → i < length cs → IsFirstError l n (drop i cs) [] [] errors.FieldCount
 short_fault l n [] i below = absurd (omega (arith, below))
 short_fault l n (c ∷ cs) zero below = refl
 short_fault l n (c ∷ cs) (suc i) below = short_fault l n cs i (omega (arith, below))
 
-return_fault : (l : Bool) (n : ℕ) (cs : List ColumnType) (next : List Field) (others : List (List Field)) → IsFirstError l n cs [] (next ∷ others) errors.LoneReturn
+return_fault : (l : Reading) (n : ℕ) (cs : List ColumnType) (next : List Field) (others : List (List Field)) → IsFirstError l n cs [] (next ∷ others) errors.LoneReturn
 return_fault l n [] next others = refl
 return_fault l n (c ∷ cs) next others = refl
 
-word_fault : (l : Bool) (n : ℕ) (cs : List ColumnType) (i : ℕ) (d : ColumnType) (f : Field) (more : List Field) (others : List (List Field)) (fault : RowReadError) → i < length cs → TellsWord n f.text fault → IsUntaken l (get_or cs i d) f → IsFirstError l n (drop i cs) (f ∷ more) others fault
+word_fault : (l : Reading) (n : ℕ) (cs : List ColumnType) (i : ℕ) (d : ColumnType) (f : Field) (more : List Field) (others : List (List Field)) (fault : RowReadError) → i < length cs → TellsWord n f.text fault → IsUntaken l (get_or cs i d) f → IsFirstError l n (drop i cs) (f ∷ more) others fault
 word_fault l n [] i d f more others fault below told untaken = absurd (omega (arith, below))
 word_fault l n (c ∷ cs) zero d f more others fault below told untaken = inl (told, untaken)
 word_fault l n (c ∷ cs) (suc i) d f more others fault below told untaken = word_fault l n cs i d f more others fault (omega (arith, below)) told untaken
 
 -- ---- no next field
 
-other_end : (d : ℕ) (l : Bool) (columns : List ColumnType) (bytes : List ℕ) (fields : List Field) (o : Follows) → AreFollowedBy d bytes fields o → AreTaken l columns fields → HasOtherEnd columns (length fields) o → RefusesFields d l columns bytes errors.FieldCount
+other_end : (d : ℕ) (l : Reading) (columns : List ColumnType) (bytes : List ℕ) (fields : List Field) (o : Follows) → AreFollowedBy d bytes fields o → AreTaken l columns fields → HasOtherEnd columns (length fields) o → RefusesFields d l columns bytes errors.FieldCount
 other_end d l columns bytes fields (Another rest) h taken end =
     let some = first_field d rest.now in
     first_told l columns fields (some.0 ∷ some.1) (field_rows d bytes) some.2 errors.FieldCount (h ∙ ap (with_front fields) some.3 ∙ front_row fields (some.0 ∷ some.1) some.2) taken (long_fault l (length fields) columns (length fields) some.0 some.1 some.2 end)
@@ -107,12 +108,12 @@ other_end d l columns bytes fields Nothing h taken end =
     first_told l columns fields [] (field_rows d bytes) [] errors.FieldCount (h ∙ ap (λ (row : List Field). row ∷ []) (sym (append-nil fields))) taken (short_fault l (length fields) columns (length fields) end)
 other_end d l columns bytes fields Row h taken end = absurd end
 
-other_row : (d : ℕ) (l : Bool) (columns : List ColumnType) (bytes : List ℕ) (fields : List Field) → AreFollowedBy d bytes fields Row → AreTaken l columns fields → RefusesFields d l columns bytes errors.LoneReturn
+other_row : (d : ℕ) (l : Reading) (columns : List ColumnType) (bytes : List ℕ) (fields : List Field) → AreFollowedBy d bytes fields Row → AreTaken l columns fields → RefusesFields d l columns bytes errors.LoneReturn
 other_row d l columns bytes fields h taken =
     first_told l columns fields [] (field_rows d bytes) (h.0 ∷ h.1) errors.LoneReturn (h.2 ∙ ap (λ (row : List Field). row ∷ h.0 ∷ h.1) (sym (append-nil fields))) taken (return_fault l (length fields) (drop (length fields) columns) h.0 h.1)
 
 -- why a walk does not go on is why there is no row
-pub walk_ends : (d : ℕ) (l : Bool) (columns : List ColumnType) (bytes : List ℕ) (walk : FieldWalk) (fields : List Field) (fault : RowReadError) → HasWalked d columns bytes walk fields → AreTaken l columns fields → EndsWalk walk fault → RefusesFields d l columns bytes fault
+pub walk_ends : (d : ℕ) (l : Reading) (columns : List ColumnType) (bytes : List ℕ) (walk : FieldWalk) (fields : List Field) (fault : RowReadError) → HasWalked d columns bytes walk fields → AreTaken l columns fields → EndsWalk walk fault → RefusesFields d l columns bytes fault
 walk_ends d l columns bytes walk fields errors.Memory h taken end = tt
 walk_ends d l columns bytes walk fields (errors.Word column word) h taken end = absurd end
 walk_ends d l columns bytes walk fields errors.FieldCount h taken end =
@@ -134,7 +135,7 @@ field_stands d bytes fields f (Another rest) h =
 field_stands d bytes fields f Nothing h = ([], [], h)
 field_stands d bytes fields f Row h = ([], h.0 ∷ h.1, h.2)
 
-pub word_refused : (d : ℕ) (l : Bool) (columns : List ColumnType) (bytes : List ℕ) (walk : FieldWalk) (fields : List Field) (next : ColumnField) (fault : RowReadError) → IsNext d columns bytes walk fields next → AreTaken l columns fields → RefusesWord l next.column next.place (field_of next) fault → RefusesFields d l columns bytes fault
+pub word_refused : (d : ℕ) (l : Reading) (columns : List ColumnType) (bytes : List ℕ) (walk : FieldWalk) (fields : List Field) (next : ColumnField) (fault : RowReadError) → IsNext d columns bytes walk fields next → AreTaken l columns fields → RefusesWord l next.column next.place (field_of next) fault → RefusesFields d l columns bytes fault
 word_refused d l columns bytes walk fields next errors.Memory h taken refused = tt
 word_refused d l columns bytes walk fields next (errors.Word at found) h taken refused =
     let f = field_of next in

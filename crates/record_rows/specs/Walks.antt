@@ -4,6 +4,7 @@ use Rattle.std.specs.List.{onto_first}
 use Rattle.csv_records.specs.Rows.{Field, field_rows}
 use Rattle.csv_records.specs.declared.fields.Follows.{Follows}
 use Rattle.csv_records.specs.declared.fields.Follows.TheVariants.{Another, Nothing, Row}
+use Rattle.record_rows.specs.Readings.{Reading}
 use Rattle.record_rows.specs.Rows.{Takes}
 use Rattle.record_rows.specs.declared.errors.RowReadError.{RowReadError}
 use Rattle.record_rows.specs.declared.errors.RowReadError.TheVariants as errors
@@ -31,11 +32,11 @@ pub record HasWalked (delimiter : ℕ) (columns : List ColumnType) (bytes : List
   pub follow : AreFollowedBy delimiter bytes fields walk.follows
 
 -- each of the fields is taken by its column
-abbrev pub AreTaken : Bool → List ColumnType → List Field → Type 0
-AreTaken lenient [] [] = Unit {0}
-AreTaken lenient [] (f ∷ fs) = ⊥
-AreTaken lenient (c ∷ cs) [] = Unit {0}
-AreTaken lenient (c ∷ cs) (f ∷ fs) = Takes lenient c f × AreTaken lenient cs fs
+abbrev pub AreTaken : Reading → List ColumnType → List Field → Type 0
+AreTaken reading [] [] = Unit {0}
+AreTaken reading [] (f ∷ fs) = ⊥
+AreTaken reading (c ∷ cs) [] = Unit {0}
+AreTaken reading (c ∷ cs) (f ∷ fs) = Takes reading c f × AreTaken reading cs fs
 
 -- a field without its column
 abbrev pub field_of : ColumnField → Field

@@ -8,11 +8,11 @@ ghost use Rattle.vortex_value.specs.Values.Content.{null};
 ghost use Rattle.vortex_value.specs.Values.Scalars.{IsValid, scalar_content, scalar_type};
 ghost use Rattle.record_rows.specs.Cells.{HasCell, HasMeaning, HasNoCell, HasNoMeaning, HasNoValue, IsBinaryCell};
 ghost use Rattle.record_rows.specs.Cells.{IsCell, IsIntegerCell, IsLogicalCell, IsTextCell, IsValueCell, column_type};
-ghost use Rattle.record_rows.specs.Cells.{is_null_field};
+ghost use Rattle.record_rows.specs.Readings.{is_null_field};
 ghost use Rattle.record_rows.specs.Words.{IsIntegerWord};
 
 use crate::ascii::is_text;
-use crate::schema::{ColumnType, Kind, dtype_of};
+use crate::schema::{ColumnType, FieldReading, Kind, dtype_of};
 use crate::words::{integer_of, is_integer};
 use hex::{FromHexError, decode};
 use logical_scalars::scalar_of_word;
@@ -24,15 +24,16 @@ use vortex_value::Scalar;
 /// The cell that a field is, if its column takes it.
 pub(crate) fn cell_of(
     alloc: Global,
+    reading: &FieldReading,
     column: ColumnType,
     word: &[u8],
     is_quoted: bool,
 ) -> Result<Option<Scalar>, AllocError>
     ensures { IfOk result (λ cell. MatchOption cell
-        (HasNoCell column (record { text = word.now; is_quoted = is_quoted }))
-        (IsCell column (record { text = word.now; is_quoted = is_quoted }))) }
+        (HasNoCell reading.now column (record { text = word.now; is_quoted = is_quoted }))
+        (IsCell reading.now column (record { text = word.now; is_quoted = is_quoted }))) }
 {
-    if is_null(column.nullability, word, is_quoted) {
+    if is_null(reading, column.nullability, word, is_quoted) {
         return Ok(Some(null_of(alloc, column)?));
     }
     value_of(alloc, column, word)
@@ -41,15 +42,16 @@ pub(crate) fn cell_of(
 /// Whether its column takes a field.
 pub(crate) fn is_taken(
     alloc: Global,
+    reading: &FieldReading,
     column: ColumnType,
     word: &[u8],
     is_quoted: bool,
 ) -> Result<bool, AllocError>
     ensures { IfOk result (λ taken. MatchBool taken
-        (HasCell column (record { text = word.now; is_quoted = is_quoted }))
-        (HasNoCell column (record { text = word.now; is_quoted = is_quoted }))) }
+        (HasCell reading.now column (record { text = word.now; is_quoted = is_quoted }))
+        (HasNoCell reading.now column (record { text = word.now; is_quoted = is_quoted }))) }
 {
-    if is_null(column.nullability, word, is_quoted) {
+    if is_null(reading, column.nullability, word, is_quoted) {
         return Ok(true);
     }
     has_meaning(alloc, column.kind, word)
@@ -93,11 +95,12 @@ fn is_hexadecimal(alloc: Global, word: &[u8]) -> Result<bool, AllocError>
 }
 
 /// Whether a field is a null.
-fn is_null(nullability: Nullability, word: &[u8], is_quoted: bool) -> bool
-    ensures { result ≡ is_null_field nullability (record { text = word.now; is_quoted = is_quoted }) }
+fn is_null(reading: &FieldReading, nullability: Nullability, word: &[u8], is_quoted: bool) -> bool
+    ensures { result ≡ is_null_field reading.now nullability
+        (record { text = word.now; is_quoted = is_quoted }) }
 {
     match nullability {
-        Nullability::Nullable => word.is_empty() && !is_quoted,
+        Nullability::Nullable => (word.is_empty() || reading.has_null(word)) && !is_quoted,
         Nullability::NonNullable => false,
     }
 }

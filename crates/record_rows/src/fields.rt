@@ -1,9 +1,10 @@
 //! The fields of a record are walked, each beside its column.
 
-ghost use Rattle.std.specs.Prelude.{◌≡◌, ◌+◌, ◌<◌, ◌≤◌, ℕ, List, [], Bool, IfErr, IfNone, IfOk, IfSome, length};
+ghost use Rattle.std.specs.Prelude.{◌≡◌, ◌+◌, ◌<◌, ◌≤◌, ℕ, List, [], IfErr, IfNone, IfOk, IfSome, length};
 ghost use Rattle.std.specs.Prelude.{if◌then◌else◌};
 ghost use Rattle.csv_records.specs.Rows.{Field};
 ghost use Rattle.csv_records.specs.declared.fields.Follows.TheVariants.{Another, Nothing};
+ghost use Rattle.record_rows.specs.Readings.{Reading};
 ghost use Rattle.record_rows.specs.Rows.{RefusesFields};
 ghost use Rattle.record_rows.specs.Walks.{AreTaken, EndsWalk, HasWalked, ReadsNext};
 ghost use Rattle.record_rows.specs.declared.schema.ColumnType.{ColumnType};
@@ -68,9 +69,9 @@ impl<'a> FieldWalk<'a> {
             × (self.old.place < length self.old.columns.now))) }
         ensures columns { self.new.columns ≡ self.old.columns }
         // If the fields before were taken, the fault is the first one.
-        ensures refused { IfErr result (λ fault. (delimiter : ℕ) (lenient : Bool) (columns : List ColumnType)
+        ensures refused { IfErr result (λ fault. (delimiter : ℕ) (reading : Reading) (columns : List ColumnType)
             (bytes : List ℕ) (fields : List Field) → HasWalked delimiter columns bytes self.old fields
-            → AreTaken lenient columns fields → RefusesFields delimiter lenient columns bytes fault) }
+            → AreTaken reading columns fields → RefusesFields delimiter reading columns bytes fault) }
     {
         let Some(rest) = self.next_start()? else {
             return Ok(None);

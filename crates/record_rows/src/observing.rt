@@ -11,7 +11,7 @@ ghost use Rattle.vortex_statistics.specs.Statistics.{known};
 use crate::errors::{ObserveError, RowReadError};
 use crate::fields::{ColumnField, FieldWalk};
 use crate::in_place::observe_in_place;
-use crate::schema::Schema;
+use crate::schema::{FieldReading, Schema};
 use crate::taking::{one_more, take_field};
 use csv_records::row_start;
 use std::alloc::Global;
@@ -25,7 +25,7 @@ use vortex_value::ScalarRef;
 /// `TooManyRows` only if the statistics of a column count as many rows as 64 bits can. After a
 /// refusal some cells may have been observed.
 ///
-/// If the schema is lenient, a field that its column does not take is a null if the column takes
+/// If the reading is lenient, a field that its column does not take is a null if the column takes
 /// nulls. The answer is how many of them there are. The buffer is used again.
 pub fn observe_record(
     alloc: Global,
@@ -37,11 +37,11 @@ pub fn observe_record(
     requires { length statistics.old ≡ length schema.now.columns.items }
     ensures observed { IfOk result (λ refused. MatchOption refused
         ((rows_of schema.now.delimiter.byte line.now ≡ []) × (statistics.new ≡ statistics.old))
-        (IsObserved schema.now.delimiter.byte schema.now.is_lenient schema.now.columns.items line.now
+        (IsObserved schema.now.delimiter.byte schema.now.reading schema.now.columns.items line.now
         statistics.old statistics.new)) }
     ensures length { length statistics.new ≡ length statistics.old }
     ensures refused { IfErr result (IsNotObserved (Refuses schema.now.delimiter.byte
-        schema.now.is_lenient schema.now.columns.items line.now) (SomeIsFull statistics.old)) }
+        schema.now.reading schema.now.columns.items line.now) (SomeIsFull statistics.old)) }
 {
     let start = row_start(line);
     if start.is_empty() {
@@ -60,21 +60,16 @@ fn observe_fields(
     statistics: &mut [ColumnStatistics],
 ) -> Result<usize, ObserveError>
     requires { length statistics.old ≡ length schema.now.columns.items }
-    ensures fields { IfOk result (AreObserved schema.now.delimiter.byte schema.now.is_lenient
+    ensures fields { IfOk result (AreObserved schema.now.delimiter.byte schema.now.reading
         schema.now.columns.items text.now statistics.old statistics.new) }
     ensures length { length statistics.new ≡ length statistics.old }
     ensures refused { IfErr result (IsNotObserved (RefusesFields schema.now.delimiter.byte
-        schema.now.is_lenient schema.now.columns.items text.now) (SomeIsFull statistics.old)) }
+        schema.now.reading schema.now.columns.items text.now) (SomeIsFull statistics.old)) }
 {
     let mut refused = 0;
     let mut walk = FieldWalk::of(schema, text);
     while let Some(field) = walk.next_field(buffer)? {
-        let flag = observe_field(
-            alloc,
-            schema.is_lenient,
-            &field,
-            &mut statistics[field.place],
-        )?;
+        let flag = observe_field(alloc, &schema.reading, &field, &mut statistics[field.place])?;
         refused = one_more(refused, flag);
     }
     Ok(refused)
@@ -83,20 +78,20 @@ fn observe_fields(
 /// Observes the cell of a field, and says whether a null stands in its place.
 fn observe_field(
     alloc: Global,
-    is_lenient: bool,
+    reading: &FieldReading,
     field: &ColumnField<'_>,
     statistics: &mut ColumnStatistics,
 ) -> Result<bool, ObserveError>
-    ensures observed { IfOk result (ObservesField is_lenient field.now.column (field_of field.now)
+    ensures observed { IfOk result (ObservesField reading.now field.now.column (field_of field.now)
         (known statistics.old) (known statistics.new)) }
     ensures valid { OnOk result (KeepsValid statistics.old statistics.new) }
-    ensures refused { IfErr result (IsNotObserved (RefusesWord is_lenient field.now.column
+    ensures refused { IfErr result (IsNotObserved (RefusesWord reading.now field.now.column
         field.now.place (field_of field.now)) (IsFull statistics.old)) }
 {
-    if observe_in_place(field.column, field.word, statistics) {
+    if observe_in_place(reading, field.column, field.word, statistics) {
         return Ok(false);
     }
-    let (cell, flag) = take_field(alloc, is_lenient, field)?;
+    let (cell, flag) = take_field(alloc, reading, field)?;
     match statistics.observe(alloc, ScalarRef::of(&cell)) {
         Ok(()) => Ok(flag),
         Err(StatisticsError::TooManyRows) => Err(ObserveError::TooManyRows),

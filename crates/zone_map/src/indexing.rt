@@ -77,13 +77,18 @@ fn made(
 
 /// A setup with what a request says of zones and bounds.
 fn with_sizes(setup: Setup, request: &IndexRequest<'_>) -> Setup {
-    let Setup { numbers, columns } = setup;
+    let Setup {
+        numbers,
+        nulls,
+        columns,
+    } = setup;
     Setup {
         numbers: Numbers {
             bound_length: request.bound_length,
             zone_rows: request.rows,
             ..numbers
         },
+        nulls,
         columns,
     }
 }
@@ -151,7 +156,7 @@ fn finish(
     let schema = loaded.setup.schema(rt.alloc())?;
     let nulls = add_zones(rt, name, file, &schema, place, &mut loaded)?;
     save(rt, name, loaded.setup.columns.len(), &loaded.index)?;
-    if schema.is_lenient {
+    if schema.reading.is_lenient() {
         let _ = eprintln!(rt; "{nulls} fields were taken as nulls");
     }
     Ok(())

@@ -10,7 +10,7 @@ use Rattle.record_search.proofs.describing.observe_line.Goals as goal
 pub returns-in-Ok-clause-observed : goal.returns-in-Ok-clause-observed
 returns-in-Ok-clause-observed c =
     let s = c.args.schema.now in
-    rw c.is_some.ensures (row_observed s.delimiter.byte s.is_lenient s.columns.items c.args.line.now c.args.statistics.now c.observe_record.new.statistics c.in-Ok.nulls c.in-Ok.ensures.observed)
+    rw c.is_some.ensures (row_observed s.delimiter.byte s.reading s.columns.items c.args.line.now c.args.statistics.now c.observe_record.new.statistics c.in-Ok.nulls c.in-Ok.ensures.observed)
 
 pub returns-in-Ok-clause-nulls : goal.returns-in-Ok-clause-nulls
 returns-in-Ok-clause-nulls c = c.unwrap_or.ensures ∙ nulls_observed c.args.schema.now c.args.line.now c.args.statistics.now c.observe_record.new.statistics c.in-Ok.nulls c.in-Ok.ensures.observed
@@ -18,7 +18,7 @@ returns-in-Ok-clause-nulls c = c.unwrap_or.ensures ∙ nulls_observed c.args.sch
 pub returns-in-Err-Row-clause-refused : goal.returns-in-Err-Row-clause-refused
 returns-in-Err-Row-clause-refused c =
     let s = c.args.schema.now in
-    let why = subst (λ (e : ObserveError). IsNotObserved (Refuses s.delimiter.byte s.is_lenient s.columns.items c.args.line.now) (SomeIsFull c.args.statistics.now) e) c.in-Err-Row.field-0-is c.in-Err-Row.ensures.refused in
+    let why = subst (λ (e : ObserveError). IsNotObserved (Refuses s.delimiter.byte s.reading s.columns.items c.args.line.now) (SomeIsFull c.args.statistics.now) e) c.in-Err-Row.field-0-is c.in-Err-Row.ensures.refused in
     rw c.record_fault.ensures (row_refused s c.args.place c.args.line.now c.in-Err-Row.error why)
 
 pub returns-in-Ok-clause-passed : goal.returns-in-Ok-clause-passed
@@ -27,5 +27,5 @@ returns-in-Ok-clause-passed c = passed_observed c.args.schema.now c.args.line.no
 pub returns-in-Err-Row-clause-right : goal.returns-in-Err-Row-clause-right
 returns-in-Err-Row-clause-right c =
     let s = c.args.schema.now in
-    let why = subst (λ (e : ObserveError). IsNotObserved (Refuses s.delimiter.byte s.is_lenient s.columns.items c.args.line.now) (SomeIsFull c.args.statistics.now) e) c.in-Err-Row.field-0-is c.in-Err-Row.ensures.refused in
+    let why = subst (λ (e : ObserveError). IsNotObserved (Refuses s.delimiter.byte s.reading s.columns.items c.args.line.now) (SomeIsFull c.args.statistics.now) e) c.in-Err-Row.field-0-is c.in-Err-Row.ensures.refused in
     rw c.record_fault.ensures (refused_right s c.args.place c.args.line.now c.in-Err-Row.error why)
