@@ -11,7 +11,7 @@ use Rattle.vortex_value.specs.Values.Scalars.{IsValid, scalar_content, scalar_ty
 use Rattle.vortex_value.specs.declared.scalars.Scalar.{Scalar}
 use Rattle.logical_types.specs.Words.{Writes}
 use Rattle.logical_types.specs.declared.logical.LogicalType.{LogicalType}
-use Rattle.record_rows.specs.Cells.{HasMeaning, HasNoCell, HasNoMeaning, HasNoValue, IsBinaryCell, IsCell, IsContent, IsIntegerCell, IsLogicalCell, IsTextCell, IsValueCell, Means, column_type, stored_content, type_by}
+use Rattle.record_rows.specs.Cells.{HasMeaning, HasNoCell, HasNoMeaning, HasNoValue, IsBinaryCell, IsBytesCell, IsCell, IsContent, IsIntegerCell, IsLogicalCell, IsTextCell, IsValueCell, Means, column_type, stored_content, type_by}
 use Rattle.record_rows.specs.Readings.{Reading, is_null_field}
 use Rattle.record_rows.specs.Words.{IsIntegerWord}
 use Rattle.record_rows.specs.declared.schema.ColumnType.{ColumnType}
@@ -64,6 +64,13 @@ pub binary_value : {E : Type 0} (column : ColumnType) (word : List ℕ) (r : Res
 binary_value column word (Ok o) e h = binary_one column word o e h
 binary_value column word (Err x) e h = tt
 
+pub bytes_value : (column : ColumnType) (word : List ℕ) (x : Scalar) → column.kind ≡ kinds.Bytes → IsBytesCell column.nullability word x → IsValueCell column word x
+bytes_value column word x e h = record {
+  typed = h.typed ∙ ap (λ (k : Kind). type_by k column.nullability) (sym e);
+  content = subst (λ (k : Kind). Means k word (scalar_content x)) (sym e) h.content;
+  valid = h.valid;
+}
+
 logical_none : (k : Kind) (l : LogicalType) (word : List ℕ) → k ≡ kinds.Logical l → ((z : ℤ) → ¬ (Writes l word z)) → (c : Content) → ¬ (Means k word c)
 logical_none k l word e none c = subst (λ (i : Kind). ¬ (Means i word c)) (sym e) (λ h. none h.0 h.1)
 
@@ -96,6 +103,9 @@ binary_meaning kind word false e h = binary_none kind word e h
 pub binary_meanings : {E : Type 0} (kind : Kind) (word : List ℕ) (r : Result Bool E) → kind ≡ kinds.Binary → IfOk r (λ b. MatchBool b ((bytes : List ℕ) × (decode_of word ≡ Ok bytes)) ((bytes : List ℕ) → ¬ (decode_of word ≡ Ok bytes))) → IfOk r (λ b. MatchBool b (HasMeaning kind word) (HasNoMeaning kind word))
 binary_meanings kind word (Ok b) e h = binary_meaning kind word b e h
 binary_meanings kind word (Err x) e h = tt
+
+pub bytes_meaning : (kind : Kind) (word : List ℕ) → kind ≡ kinds.Bytes → HasMeaning kind word
+bytes_meaning kind word e = (string word, subst (λ (k : Kind). Means k word (string word)) (sym e) refl)
 
 pub logical_meaning : (kind : Kind) (l : LogicalType) (word : List ℕ) (b : Bool) → kind ≡ kinds.Logical l → MatchBool b ((z : ℤ) × Writes l word z) ((z : ℤ) → ¬ (Writes l word z)) → MatchBool b (HasMeaning kind word) (HasNoMeaning kind word)
 logical_meaning kind l word true e h = (stored_content l h.0, subst (λ (k : Kind). Means k word (stored_content l h.0)) (sym e) (h.0, h.1, refl))

@@ -138,6 +138,7 @@ no_null : (kind : Kind) (word : List ℕ) (c : Content) → Means kind word c �
 no_null (kinds.Integer k) word c h = ap is_null_content h.2
 no_null kinds.Utf8 word c h = ap is_null_content h.1
 no_null kinds.Binary word c h = ap is_null_content h.2
+no_null kinds.Bytes word c h = ap is_null_content h
 no_null (kinds.Logical l) word c h = ap is_null_content h.2 ∙ stored_no_null (storage_type_of l) h.0
 
 pub word_observed : IsReversed order → IsTransitive order → (reading : Reading) (column : ColumnType) (word : List ℕ) (s t : Known) (l u v : KnownBound) → 0 < length word → is_null_word reading.nulls word ≡ false → s.row_count + 1 < 2 ^ 64 → s.lower ≡ Some l → s.upper ≡ Some u → may_be_value s ≡ true → TakesWord column word l u v → t ≡ with_upper s v → ObservesWord reading column word s t

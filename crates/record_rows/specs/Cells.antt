@@ -23,6 +23,7 @@ abbrev pub type_by : Kind → Nullability → TypeTree
 type_by (kinds.Integer ptype) n = integer_type ptype n
 type_by kinds.Utf8 n = utf8_type n
 type_by kinds.Binary n = binary_type n
+type_by kinds.Bytes n = binary_type n
 type_by (kinds.Logical logical) n = logical_tree logical n
 
 abbrev pub column_type : ColumnType → TypeTree
@@ -37,6 +38,7 @@ abbrev pub Means : Kind → List ℕ → Content → Type 0
 Means (kinds.Integer ptype) word c = (z : ℤ) × IsIntegerWord ptype word z × (c ≡ whole z)
 Means kinds.Utf8 word c = IsUtf8 word × (c ≡ text word)
 Means kinds.Binary word c = (bytes : List ℕ) × (decode_of word ≡ Ok bytes) × (c ≡ string bytes)
+Means kinds.Bytes word c = c ≡ string word
 Means (kinds.Logical logical) word c = (z : ℤ) × Writes logical word z × (c ≡ stored_content logical z)
 
 -- the content of a field
@@ -93,6 +95,11 @@ pub record IsBinaryCell (n : Nullability) (word : List ℕ) (x : Scalar) : Type 
   pub bytes : List ℕ
   pub is : decode_of word ≡ Ok bytes
   pub content : scalar_content x ≡ string bytes
+  pub valid : IsValid x
+
+pub record IsBytesCell (n : Nullability) (word : List ℕ) (x : Scalar) : Type 0 where
+  pub typed : scalar_type x ≡ binary_type n
+  pub content : scalar_content x ≡ string word
   pub valid : IsValid x
 
 pub record IsLogicalCell (logical : LogicalType) (n : Nullability) (word : List ℕ) (x : Scalar) : Type 0 where

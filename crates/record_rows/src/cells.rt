@@ -7,7 +7,7 @@ ghost use Rattle.vortex_dtype.specs.declared.nullability.Nullability.TheVariants
 ghost use Rattle.vortex_value.specs.Values.Content.{null};
 ghost use Rattle.vortex_value.specs.Values.Scalars.{IsValid, scalar_content, scalar_type};
 ghost use Rattle.record_rows.specs.Cells.{HasCell, HasMeaning, HasNoCell, HasNoMeaning, HasNoValue, IsBinaryCell};
-ghost use Rattle.record_rows.specs.Cells.{IsCell, IsIntegerCell, IsLogicalCell, IsTextCell, IsValueCell, column_type};
+ghost use Rattle.record_rows.specs.Cells.{IsBytesCell, IsCell, IsIntegerCell, IsLogicalCell, IsTextCell, IsValueCell, column_type};
 ghost use Rattle.record_rows.specs.Readings.{is_null_field};
 ghost use Rattle.record_rows.specs.Words.{IsIntegerWord};
 
@@ -65,6 +65,7 @@ fn has_meaning(alloc: Global, kind: Kind, word: &[u8]) -> Result<bool, AllocErro
         Kind::Integer(ptype) => Ok(is_integer(word, ptype)),
         Kind::Utf8 => Ok(is_text(word)),
         Kind::Binary => is_hexadecimal(alloc, word),
+        Kind::Bytes => Ok(true),
         Kind::Logical(logical) => Ok(is_written(logical, word)),
     }
 }
@@ -125,6 +126,7 @@ fn value_of(alloc: Global, column: ColumnType, word: &[u8]) -> Result<Option<Sca
         Kind::Integer(ptype) => Ok(integer_cell(ptype, column.nullability, word)),
         Kind::Utf8 => text_cell(alloc, column.nullability, word),
         Kind::Binary => binary_cell(alloc, column.nullability, word),
+        Kind::Bytes => Ok(Some(bytes_cell(alloc, column.nullability, word)?)),
         Kind::Logical(logical) => logical_cell(alloc, logical, column.nullability, word),
     }
 }
@@ -180,6 +182,16 @@ fn binary_cell(
         Err(FromHexError::OutOfMemory) => Err(AllocError),
         Err(_) => Ok(None),
     }
+}
+
+/// The bytes of a word.
+fn bytes_cell(alloc: Global, nullability: Nullability, word: &[u8]) -> Result<Scalar, AllocError>
+    ensures { IfOk result (IsBytesCell nullability word.now) }
+{
+    let Ok(buffer) = ByteBuffer::from_slice(alloc, word) else {
+        return Err(AllocError);
+    };
+    Ok(Scalar::binary(buffer, nullability))
 }
 
 /// The value of a logical type that a word writes.

@@ -66,7 +66,7 @@ fn take_word(column: ColumnType, word: &[u8], lower: &Bound, upper: &mut Bound) 
     match column.kind {
         Kind::Integer(ptype) => take_integer(ptype, column.nullability, word, lower, upper),
         Kind::Utf8 => is_text_inside(word, lower, upper),
-        Kind::Binary => false,
+        Kind::Binary | Kind::Bytes => false,
         Kind::Logical(_) => false,
     }
 }

@@ -21,6 +21,8 @@ pub enum Kind {
     Utf8,
     /// Bytes, as hexadecimal digits, two for a byte.
     Binary,
+    /// Bytes: each word is its own, in whatever encoding it is.
+    Bytes,
     /// Values of a logical type: floats, decimals, dates, times of day or timestamps.
     Logical(LogicalType),
 }
@@ -109,7 +111,7 @@ pub fn dtype_of(alloc: Global, column: ColumnType) -> Result<DType, AllocError>
     match column.kind {
         Kind::Integer(ptype) => Ok(DType::Primitive(ptype, nullability)),
         Kind::Utf8 => Ok(DType::Utf8(nullability)),
-        Kind::Binary => Ok(DType::Binary(nullability)),
+        Kind::Binary | Kind::Bytes => Ok(DType::Binary(nullability)),
         Kind::Logical(logical) => match dtype_of_logical_type(alloc, logical, nullability) {
             Ok(dtype) => Ok(dtype),
             Err(_) => Err(AllocError),

@@ -74,6 +74,7 @@ word_to : (kind : Kind) (word : List ℕ) (c : Content) → Means kind word c �
 word_to (kinds.Integer k) word c h = rw (integer_to k word h.0 h.1) (ap (λ (z : ℤ). Some (whole z)) h.1.value ∙ ap (λ (d : Content). Some d) (sym h.2))
 word_to kinds.Utf8 word c h = rw (is_utf8-from_IsUtf8 word h.0) (ap (λ (d : Content). Some d) (sym h.1))
 word_to kinds.Binary word c h = ap bytes_content h.1 ∙ ap (λ (d : Content). Some d) (sym h.2)
+word_to kinds.Bytes word c h = ap (λ (d : Content). Some d) (sym h)
 word_to (kinds.Logical l) word c h = ap (option_map (stored_content l)) (storage_to l word h.0 h.1) ∙ ap (λ (d : Content). Some d) (sym h.2)
 
 stored_from : (l : LogicalType) (o : Option ℤ) (c : Content) → option_map (stored_content l) o ≡ Some c → (z : ℤ) × (o ≡ Some z) × (c ≡ stored_content l z)
@@ -88,6 +89,7 @@ word_from kinds.Utf8 word c e =
     let p = chosen_content (is_utf8 word) (text word) c e in
     (IsUtf8-from_is_utf8 word p.0, sym p.1)
 word_from kinds.Binary word c e = bytes_from (decode_of word) c e
+word_from kinds.Bytes word c e = cc
 word_from (kinds.Logical l) word c e = let p = stored_from l (storage_in l word) c e in (p.0, storage_from l word p.0 p.1, p.2)
 
 -- ---- fields

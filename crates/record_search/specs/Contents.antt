@@ -38,6 +38,7 @@ abbrev pub word_content : Kind → List ℕ → Option Content
 word_content (kinds.Integer ptype) word = if is_integer_word ptype word then Some (whole (signed_digits_value 10 word)) else None
 word_content kinds.Utf8 word = if is_utf8 word then Some (text word) else None
 word_content kinds.Binary word = bytes_content (decode_of word)
+word_content kinds.Bytes word = Some (string word)
 word_content (kinds.Logical logical) word = option_map (stored_content logical) (storage_in logical word)
 
 -- the content, or a null in its place where that is asked

@@ -46,6 +46,7 @@ kind_word (kinds.Integer ptypes.U32) = codes "u32"
 kind_word (kinds.Integer ptypes.U64) = codes "u64"
 kind_word kinds.Utf8 = codes "utf8"
 kind_word kinds.Binary = codes "binary"
+kind_word kinds.Bytes = codes "bytes"
 kind_word (kinds.Logical logical) = name_of logical
 
 -- a kind without a logical type
@@ -53,6 +54,7 @@ abbrev pub IsPlain : Kind → Type 0
 IsPlain (kinds.Integer ptype) = Unit {0}
 IsPlain kinds.Utf8 = Unit {0}
 IsPlain kinds.Binary = Unit {0}
+IsPlain kinds.Bytes = Unit {0}
 IsPlain (kinds.Logical logical) = ⊥
 
 -- a question mark if the column takes nulls

@@ -16,7 +16,7 @@ Example:
 /// What the help of a command ends with that makes an index.
 const ABOUT_COLUMNS: &str =
     "Kinds are i8, i16, i32, i64, u8, u16, u32 and u64 in decimal, f64, f32, decimal(10,2), date, time(us), timestamp(us), \
-    timestamp(us,UTC), utf8, and binary in hexadecimal digits; units are s, ms, us and ns. \
+    timestamp(us,UTC), utf8, bytes as they are, and binary in hexadecimal digits; units are s, ms, us and ns. \
     A name with other than letters, digits, _ and $ stands in double quotes. \
     Without --columns the kinds are guessed from the first 1000 records, and told. So are those of columns that --columns leaves out \
     and --header names.";
