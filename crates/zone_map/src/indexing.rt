@@ -1,5 +1,6 @@
 //! An index is made, or extended.
 
+use crate::column_words::NamedColumn;
 use crate::commands::IndexRequest;
 use crate::files::{at_place, buffered, from_place, open_file, save, stamp_of};
 use crate::grown::{end_of, grown_end};
@@ -9,11 +10,16 @@ use crate::preparing::{Prepared, prepare};
 use crate::program_errors::{FileError, ProgramError};
 use crate::setup::{Numbers, Setup};
 use crate::watching::Watched;
+use logical_types::{StorageType, storage_type};
+use record_rows::Kind;
 use record_search::{RowDescriber, Schema, index_rows};
 use std::alloc::Global;
 use std::fs::File;
 use std::process::ExitCode;
 use zone_index::{Index, Indexed};
+
+/// How many bytes a decimal of more than 18 digits is stored in.
+const WIDE_LENGTH: usize = 16;
 
 /// An index that is to have the zones from an offset on.
 #[derive(Drop)]
@@ -82,15 +88,26 @@ fn with_sizes(setup: Setup, request: &IndexRequest<'_>) -> Setup {
         nulls,
         columns,
     } = setup;
+    let bound_length = request.bound_length.max(least_length(&columns));
     Setup {
         numbers: Numbers {
-            bound_length: request.bound_length,
+            bound_length,
             zone_rows: request.rows,
             ..numbers
         },
         nulls,
         columns,
     }
+}
+
+/// How many bytes bounds have at least, so that no number is cut: those of a decimal of more than 18 digits,
+/// if a column has such decimals.
+fn least_length(columns: &[NamedColumn]) -> usize {
+    let has_wide = columns.iter().any(|named| match named.column.kind {
+        Kind::Logical(logical) => storage_type(logical) == StorageType::Bytes,
+        _ => false,
+    });
+    if has_wide { WIDE_LENGTH } else { 0 }
 }
 
 /// An index without zones, of a file whose header has so many bytes.
