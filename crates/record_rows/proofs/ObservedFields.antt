@@ -15,6 +15,7 @@ use Rattle.record_rows.specs.declared.errors.ObserveError.TheVariants.{Row, TooM
 use Rattle.record_rows.specs.declared.errors.RowReadError.{RowReadError}
 use Rattle.record_rows.specs.declared.fields.ColumnField.{ColumnField}
 use Rattle.record_rows.specs.declared.fields.FieldWalk.{FieldWalk}
+use Rattle.record_rows.specs.declared.observing.RowNotes.{RowNotes}
 use Rattle.record_rows.specs.declared.schema.ColumnType.{ColumnType}
 use Rattle.vortex_statistics.specs.Statistics.{known}
 use Rattle.vortex_statistics.specs.declared.column_statistics.ColumnStatistics.{ColumnStatistics}
@@ -66,11 +67,11 @@ step_more l columns i old new after steps k f s t b inside long before at put va
 -- the fields so far are observed
 pub record Begun (d : ℕ) (l : Reading) (columns : List ColumnType) (bytes : List ℕ) (walk : FieldWalk) (old new : List ColumnStatistics) (refused : ℕ) : Type 0 where
   pub steps : List Step
-  pub walked : HasWalked d columns bytes walk (map (λ s. s.field) steps)
+  pub walked : HasWalked d l columns bytes walk (map (λ s. s.field) steps)
   pub stepped : Stepped l columns walk.place old new steps
   pub count : refused ≡ refused_of (map (λ s. s.flag) steps)
 
-pub begun : (d : ℕ) (l : Reading) (columns : List ColumnType) (bytes : List ℕ) (walk : FieldWalk) (old : List ColumnStatistics) → HasWalked d columns bytes walk [] → Begun d l columns bytes walk old old 0
+pub begun : (d : ℕ) (l : Reading) (columns : List ColumnType) (bytes : List ℕ) (walk : FieldWalk) (old : List ColumnStatistics) → HasWalked d l columns bytes walk [] → Begun d l columns bytes walk old old 0
 begun d l columns bytes walk old h = record {
   steps = [];
   walked = h;
@@ -80,7 +81,7 @@ begun d l columns bytes walk old h = record {
 
 -- a field more
 pub more : (d : ℕ) (l : Reading) (columns : List ColumnType) (bytes : List ℕ) (old_walk walk : FieldWalk) (next : ColumnField) (old new after : List ColumnStatistics) (s t : ColumnStatistics) (b : Bool) (n m : ℕ) → length old ≡ length columns → (h : Begun d l columns bytes old_walk old new n)
-    → IsNext d columns bytes walk (map (λ (p : Step). p.field) h.steps) next → s ≡ get_or new next.place s → after ≡ set new next.place t → KeepsValid s t → ObservesField l next.column (field_of next) (known s) (known t) b → m ≡ n + cond b 1 0 → Begun d l columns bytes walk old after m
+    → IsNext d l columns bytes walk (map (λ (p : Step). p.field) h.steps) next → s ≡ get_or new next.place s → after ≡ set new next.place t → KeepsValid s t → ObservesField l next.column (field_of next) (known s) (known t) b → m ≡ n + cond b 1 0 → Begun d l columns bytes walk old after m
 more d l columns bytes old_walk walk next old new after s t b n m long h is at put valid observes counted =
     let fields = map (λ (p : Step). p.field) h.steps in
     let i = next.place in
@@ -91,7 +92,7 @@ more d l columns bytes old_walk walk next old new after s t b n m long h is at p
     let moved : i + 1 ≡ walk.place = omega (arith, is.place, is.walked.place, length-append fields (field_of next ∷ [])) in
     record {
       steps = h.steps ++ step ∷ [];
-      walked = subst (HasWalked d columns bytes walk) (sym (map-append (λ (p : Step). p.field) h.steps (step ∷ []))) is.walked;
+      walked = subst (HasWalked d l columns bytes walk) (sym (map-append (λ (p : Step). p.field) h.steps (step ∷ []))) is.walked;
       stepped = subst (λ (k : ℕ). Stepped l columns k old after (h.steps ++ step ∷ [])) moved (step_more l columns i old new after h.steps next.column (field_of next) s t b is.within long stepped at put valid seen);
       count = refused_push (map (λ (p : Step). p.flag) h.steps) b n m h.count counted ∙ ap refused_of (sym (map-append (λ (p : Step). p.flag) h.steps (step ∷ [])));
     }
@@ -113,7 +114,7 @@ begun_taken d l columns bytes walk old new n h =
 
 -- a column whose field is not observed: its statistics are full, if that is why
 pub not_observed : (d : ℕ) (l : Reading) (columns : List ColumnType) (bytes : List ℕ) (old_walk walk : FieldWalk) (next : ColumnField) (old new : List ColumnStatistics) (s : ColumnStatistics) (n : ℕ) (e : ObserveError) → length old ≡ length columns → (h : Begun d l columns bytes old_walk old new n)
-    → IsNext d columns bytes walk (map (λ (p : Step). p.field) h.steps) next → s ≡ get_or new next.place s → IsNotObserved (RefusesWord l next.column next.place (field_of next)) (IsFull s) e → IsNotObserved (RefusesFields d l columns bytes) (SomeIsFull old) e
+    → IsNext d l columns bytes walk (map (λ (p : Step). p.field) h.steps) next → s ≡ get_or new next.place s → IsNotObserved (RefusesWord l next.column next.place (field_of next)) (IsFull s) e → IsNotObserved (RefusesFields d l columns bytes) (SomeIsFull old) e
 not_observed d l columns bytes old_walk walk next old new s n (Row error) long h is at why = word_refused d l columns bytes walk (map (λ (p : Step). p.field) h.steps) next error is (begun_taken d l columns bytes old_walk old new n h) why
 not_observed d l columns bytes old_walk walk next old new s n TooManyRows long h is at why =
     let i = next.place in
@@ -123,25 +124,28 @@ not_observed d l columns bytes old_walk walk next old new s n TooManyRows long h
     (s, (i, within, sym (at ∙ (untouched l columns i old new h.steps s within stepped).0)), why)
 
 -- behind the last one
-pub ended : (d : ℕ) (l : Reading) (columns : List ColumnType) (bytes : List ℕ) (walk last : FieldWalk) (old new : List ColumnStatistics) (n : ℕ) → length old ≡ length columns → (h : Begun d l columns bytes walk old new n) → ReadsNext d columns bytes last (map (λ (p : Step). p.field) h.steps) None
-    → AreObserved d l columns bytes old new n
+pub ended : (d : ℕ) (l : Reading) (columns : List ColumnType) (bytes : List ℕ) (walk last : FieldWalk) (old new : List ColumnStatistics) (n : ℕ) → length old ≡ length columns → (h : Begun d l columns bytes walk old new n) → ReadsNext d l columns bytes last (map (λ (p : Step). p.field) h.steps) None
+    → AreObserved d l columns bytes old new (record { refused = n; is_longer = last.is_longer })
 ended d l columns bytes walk last old new n long h none =
-    let past : length columns ≤ walk.place = omega (arith, h.walked.place, none.1) in (
-      map (λ (p : Step). p.field) h.steps,
-      none.0,
-      record {
-        steps = h.steps;
-        fields_are = refl;
-        columns_are = sym (take_all walk.place columns past) ∙ h.stepped.columns_are;
-        old_are = sym (take_all walk.place old (omega (arith, long, past))) ∙ h.stepped.old_are;
-        new_are = sym (take_all walk.place new (omega (arith, long, past, h.stepped.long))) ∙ h.stepped.new_are;
-        each = h.stepped.each;
-        count = h.count;
-      },
+    let past : length columns ≤ walk.place = omega (arith, h.walked.place, none.count) in (
+      none.row,
+      none.is,
+      (
+        record {
+          steps = h.steps;
+          fields_are = none.fields_are;
+          columns_are = sym (take_all walk.place columns past) ∙ h.stepped.columns_are;
+          old_are = sym (take_all walk.place old (omega (arith, long, past))) ∙ h.stepped.old_are;
+          new_are = sym (take_all walk.place new (omega (arith, long, past, h.stepped.long))) ∙ h.stepped.new_are;
+          each = h.stepped.each;
+          count = h.count;
+        },
+        none.longer,
+      ),
     )
 
-pub observed_line : (d : ℕ) (l : Reading) (columns : List ColumnType) (line start : List ℕ) (old new : List ColumnStatistics) (n : ℕ) → rows_of d line ≡ field_rows d start → AreObserved d l columns start old new n → IsObserved d l columns line old new n
-observed_line d l columns line start old new n same h = (h.0, same ∙ h.1, h.2)
+pub observed_line : (d : ℕ) (l : Reading) (columns : List ColumnType) (line start : List ℕ) (old new : List ColumnStatistics) (notes : RowNotes) → rows_of d line ≡ field_rows d start → AreObserved d l columns start old new notes → IsObserved d l columns line old new notes
+observed_line d l columns line start old new notes same h = (h.0, same ∙ h.1, h.2)
 
 -- the same refusal, whose reason is told of something else
 pub told_of : (Before After : RowReadError → Type 0) (full : Type 0) (e : ObserveError) → ((error : RowReadError) → Before error → After error) → IsNotObserved Before full e → IsNotObserved After full e

@@ -8,7 +8,7 @@ use Rattle.csv_records.specs.Rows.{Field, field_rows, rows_of}
 use Rattle.vortex_value.specs.Values.Scalars.{scalar_content}
 use Rattle.vortex_value.specs.declared.scalars.Scalar.{Scalar}
 use Rattle.record_rows.specs.Readings.{Reading}
-use Rattle.record_rows.specs.Rows.{AreCells, AreCellsIn, HasFields, IsRow, IsRowIn, IsTakenIf, IsTested, PushesCell, Refuses, RefusesFields, RefusesRows, Takes, is_wanted, refused_of}
+use Rattle.record_rows.specs.Rows.{AreCells, AreCellsIn, HasFields, IsRow, IsRowIn, IsTakenIf, IsTested, PushesCell, Refuses, RefusesFields, RefusesRows, Takes, fitted, is_wanted, refused_of}
 use Rattle.record_rows.specs.Walks.{AreTaken, HasWalked, IsNext, ReadsNext, field_of}
 use Rattle.record_rows.specs.declared.errors.RowReadError.{RowReadError}
 use Rattle.record_rows.specs.declared.fields.ColumnField.{ColumnField}
@@ -47,11 +47,11 @@ refused_push bs b old new before here = here ∙ ap (λ (n : ℕ). n + cond b 1 
 pub record Begun (w : List Bool) (d : ℕ) (l : Reading) (columns : List ColumnType) (bytes : List ℕ) (walk : FieldWalk) (row : List Scalar) (refused : ℕ) : Type 0 where
   pub fields : List Field
   pub flags : List Bool
-  pub walked : HasWalked d columns bytes walk fields
+  pub walked : HasWalked d l columns bytes walk fields
   pub cells : AreCellsIn w 0 l (take walk.place columns) fields row flags
   pub count : refused ≡ refused_of flags
 
-pub begun : (w : List Bool) (d : ℕ) (l : Reading) (columns : List ColumnType) (bytes : List ℕ) (walk : FieldWalk) (row : List Scalar) → HasWalked d columns bytes walk [] → row ≡ [] → Begun w d l columns bytes walk row 0
+pub begun : (w : List Bool) (d : ℕ) (l : Reading) (columns : List ColumnType) (bytes : List ℕ) (walk : FieldWalk) (row : List Scalar) → HasWalked d l columns bytes walk [] → row ≡ [] → Begun w d l columns bytes walk row 0
 begun w d l columns bytes walk row h none = record {
   fields = [];
   flags = [];
@@ -70,7 +70,7 @@ more_cells w l columns i fs f d0 old new bs b inside before push =
     (subst (λ (xs : List Scalar). AreCellsIn w 0 l (take i columns ++ column ∷ []) (fs ++ f ∷ []) xs (bs ++ b ∷ [])) (sym push.pushed) (cells_push w 0 i l (take i columns) fs old bs column f push.cell b (omega (arith, count)) before push.is))
 
 -- a field more
-pub more : (w : List Bool) (d : ℕ) (l : Reading) (columns : List ColumnType) (bytes : List ℕ) (old_walk walk : FieldWalk) (next : ColumnField) (old new : List Scalar) (b : Bool) (n m : ℕ) → (h : Begun w d l columns bytes old_walk old n) → IsNext d columns bytes walk h.fields next
+pub more : (w : List Bool) (d : ℕ) (l : Reading) (columns : List ColumnType) (bytes : List ℕ) (old_walk walk : FieldWalk) (next : ColumnField) (old new : List Scalar) (b : Bool) (n m : ℕ) → (h : Begun w d l columns bytes old_walk old n) → IsNext d l columns bytes walk h.fields next
     → PushesCell (is_wanted w next.place) l next.column (field_of next) old new b → m ≡ n + cond b 1 0 → Begun w d l columns bytes walk new m
 more w d l columns bytes old_walk walk next old new b n m h is pushes counted =
     let i = length h.fields in
@@ -88,7 +88,7 @@ more w d l columns bytes old_walk walk next old new b n m h is pushes counted =
     }
 
 -- the same of a row whose cells are put at their places
-pub more_at : (w : List Bool) (d : ℕ) (l : Reading) (columns : List ColumnType) (bytes : List ℕ) (old_walk walk : FieldWalk) (next : ColumnField) (old new : List Scalar) (b : Bool) (n m : ℕ) → (h : Begun w d l columns bytes old_walk (take old_walk.place old) n) → IsNext d columns bytes walk h.fields next
+pub more_at : (w : List Bool) (d : ℕ) (l : Reading) (columns : List ColumnType) (bytes : List ℕ) (old_walk walk : FieldWalk) (next : ColumnField) (old new : List Scalar) (b : Bool) (n m : ℕ) → (h : Begun w d l columns bytes old_walk (take old_walk.place old) n) → IsNext d l columns bytes walk h.fields next
     → PushesCell (is_wanted w next.place) l next.column (field_of next) (take next.place old) (take (next.place + 1) new) b → m ≡ n + cond b 1 0 → Begun w d l columns bytes walk (take walk.place new) m
 more_at w d l columns bytes old_walk walk next old new b n m h is pushes counted =
     let here : next.place ≡ old_walk.place = is.place ∙ sym h.walked.place in
@@ -98,10 +98,11 @@ more_at w d l columns bytes old_walk walk next old new b n m h is pushes counted
     (subst (λ (k : ℕ). PushesCell (is_wanted w next.place) l next.column (field_of next) (take next.place old) (take k new) b) moved pushes)) counted
 
 -- behind the last one
-pub ended : (w : List Bool) (d : ℕ) (l : Reading) (columns : List ColumnType) (bytes : List ℕ) (walk new : FieldWalk) (row : List Scalar) (n : ℕ) → (h : Begun w d l columns bytes walk row n) → ReadsNext d columns bytes new h.fields None → HasFields w d l columns bytes row n
+pub ended : (w : List Bool) (d : ℕ) (l : Reading) (columns : List ColumnType) (bytes : List ℕ) (walk new : FieldWalk) (row : List Scalar) (n : ℕ) → (h : Begun w d l columns bytes walk row n) → ReadsNext d l columns bytes new h.fields None → HasFields w d l columns bytes row n
 ended w d l columns bytes walk new row n h none =
-    let all : take walk.place columns ≡ columns = take_all walk.place columns (omega (arith, h.walked.place, none.1)) in
-    record { fields = h.fields; flags = h.flags; is = none.0; cells = subst (λ (cs : List ColumnType). AreCellsIn w 0 l cs h.fields row h.flags) all h.cells; count = h.count }
+    let all : take walk.place columns ≡ columns = take_all walk.place columns (omega (arith, h.walked.place, none.count)) in
+    let cells : AreCellsIn w 0 l columns h.fields row h.flags = subst (λ (cs : List ColumnType). AreCellsIn w 0 l cs h.fields row h.flags) all h.cells in
+    record { fields = none.row; flags = h.flags; is = none.is; cells = subst (λ (fs : List Field). AreCellsIn w 0 l columns fs row h.flags) (sym none.fields_are) cells; count = h.count }
 
 -- ---- fields that are taken
 
@@ -153,7 +154,7 @@ is_row w d l columns line start row n same h = record { fields = h.fields; flags
 
 -- a row of which each cell is wanted
 pub is_whole_row : (d : ℕ) (l : Reading) (columns : List ColumnType) (line : List ℕ) (row : List Scalar) (n : ℕ) → IsRowIn [] d l columns line row n → IsRow d l columns line row n
-is_whole_row d l columns line row n h = record { fields = h.fields; flags = h.flags; is = h.is; cells = all_cells 0 l columns h.fields row h.flags h.cells; count = h.count }
+is_whole_row d l columns line row n h = record { fields = h.fields; flags = h.flags; is = h.is; cells = all_cells 0 l columns (fitted l.is_lenient columns h.fields) row h.flags h.cells; count = h.count }
 
 pub whole_rows : {E : Type 0} (d : ℕ) (l : Reading) (columns : List ColumnType) (line : List ℕ) (row : List Scalar) (r : Result (Option ℕ) E) → IfOk r (λ o. MatchOption o (rows_of d line ≡ []) (IsRowIn [] d l columns line row)) → IfOk r (λ o. MatchOption o (rows_of d line ≡ []) (IsRow d l columns line row))
 whole_rows d l columns line row (Ok None) h = h

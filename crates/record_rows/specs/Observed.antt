@@ -1,16 +1,17 @@
 -- The statistics of columns and one record more.
-use Rattle.std.specs.Prelude.{◌≡◌, ◌⊎◌, ◌+◌, ◌<◌, ◌≤◌, ◌^◌, ℕ, ℤ, List, [], ◌∷◌, Bool, false, true, Contains, Option, Some, IsUtf8, map}
+use Rattle.std.specs.Prelude.{◌≡◌, ◌⊎◌, ◌+◌, ◌<◌, ◌≤◌, ◌^◌, ℕ, ℤ, List, [], ◌∷◌, Bool, false, true, Contains, Option, Some, IsUtf8, length, map, nat_lt}
 use Rattle.std.specs.List.{AllByRecursion}
 use Rattle.std.specs.declared.cmp.Ordering.{Ordering}
 use Rattle.std.specs.declared.cmp.Ordering.TheVariants.{Equal, Less}
 use Rattle.csv_records.specs.Rows.{Field, field_rows, rows_of}
 use Rattle.record_rows.specs.Cells.{HasNoCell, IsContent, Means, column_type}
 use Rattle.record_rows.specs.Readings.{Reading}
-use Rattle.record_rows.specs.Rows.{refused_of}
+use Rattle.record_rows.specs.Rows.{fitted, refused_of}
 use Rattle.record_rows.specs.Words.{IsIntegerWord}
 use Rattle.record_rows.specs.declared.errors.ObserveError.{ObserveError}
 use Rattle.record_rows.specs.declared.errors.ObserveError.TheVariants.{Row, TooManyRows}
 use Rattle.record_rows.specs.declared.errors.RowReadError.{RowReadError}
+use Rattle.record_rows.specs.declared.observing.RowNotes.{RowNotes}
 use Rattle.record_rows.specs.declared.schema.ColumnType.{ColumnType}
 use Rattle.vortex_dtype.specs.TypeTree.{integer_type, utf8_type}
 use Rattle.vortex_dtype.specs.declared.nullability.Nullability.{Nullability}
@@ -74,13 +75,18 @@ pub record AreFieldsObserved (reading : Reading) (columns : List ColumnType) (fi
   pub each : AllByRecursion (IsStep reading) steps
   pub count : refused ≡ refused_of (map (λ s. s.flag) steps)
 
+-- the fields of a row are observed as they stand in columns, and noted is how many of them their columns do not take, and whether
+-- they are more than columns
+abbrev pub AreNoted : Reading → List ColumnType → List Field → List ColumnStatistics → List ColumnStatistics → RowNotes → Type 0
+AreNoted reading columns fields old new notes = AreFieldsObserved reading columns (fitted reading.is_lenient columns fields) old new notes.refused × (notes.is_longer ≡ nat_lt (length columns) (length fields))
+
 -- the text has one row, which is observed; it begins where a field does
-abbrev pub AreObserved : ℕ → Reading → List ColumnType → List ℕ → List ColumnStatistics → List ColumnStatistics → ℕ → Type 0
-AreObserved delimiter reading columns bytes old new refused = (fields : List Field) × (field_rows delimiter bytes ≡ fields ∷ []) × AreFieldsObserved reading columns fields old new refused
+abbrev pub AreObserved : ℕ → Reading → List ColumnType → List ℕ → List ColumnStatistics → List ColumnStatistics → RowNotes → Type 0
+AreObserved delimiter reading columns bytes old new notes = (fields : List Field) × (field_rows delimiter bytes ≡ fields ∷ []) × AreNoted reading columns fields old new notes
 
 -- the record has one row, which is observed
-abbrev pub IsObserved : ℕ → Reading → List ColumnType → List ℕ → List ColumnStatistics → List ColumnStatistics → ℕ → Type 0
-IsObserved delimiter reading columns line old new refused = (fields : List Field) × (rows_of delimiter line ≡ fields ∷ []) × AreFieldsObserved reading columns fields old new refused
+abbrev pub IsObserved : ℕ → Reading → List ColumnType → List ℕ → List ColumnStatistics → List ColumnStatistics → RowNotes → Type 0
+IsObserved delimiter reading columns line old new notes = (fields : List Field) × (rows_of delimiter line ≡ fields ∷ []) × AreNoted reading columns fields old new notes
 
 -- ---- refusals
 

@@ -40,12 +40,38 @@ AreCells reading (c ∷ cs) (f ∷ fs) (x ∷ xs) (b ∷ bs) = IsTaken reading c
 abbrev pub refused_of : List Bool → ℕ
 refused_of flags = count_by (λ b. b) flags
 
+-- ---- records of another length
+
+-- a field that a record lacks
+abbrev pub no_field : Field
+no_field = record { text = []; is_quoted = false }
+
+-- such a field before those of the other columns, if its column takes nulls
+abbrev pub missing_before : Nullability → List Field → List Field
+missing_before Nullable fields = no_field ∷ fields
+missing_before NonNullable fields = []
+
+-- the fields that a record lacks, up to the first column that takes no null
+abbrev pub missing : List ColumnType → List Field
+missing [] = []
+missing (c ∷ cs) = missing_before c.nullability (missing cs)
+
+-- the fields that stand in columns: those of the record; or in a lenient reading without those that are too many, and with those
+-- that it lacks
+abbrev pub fitted : Bool → List ColumnType → List Field → List Field
+fitted false columns fields = fields
+fitted true columns [] = missing columns
+fitted true [] (f ∷ fs) = []
+fitted true (c ∷ cs) (f ∷ fs) = f ∷ fitted true cs fs
+
+-- ---- the row of a record
+
 -- the record has one row, its cells are these, and so many stand in place of one
 pub record IsRow (delimiter : ℕ) (reading : Reading) (columns : List ColumnType) (line : List ℕ) (row : List Scalar) (refused : ℕ) : Type 0 where
   pub fields : List Field
   pub flags : List Bool
   pub is : rows_of delimiter line ≡ fields ∷ []
-  pub cells : AreCells reading columns fields row flags
+  pub cells : AreCells reading columns (fitted reading.is_lenient columns fields) row flags
   pub count : refused ≡ refused_of flags
 
 -- ---- rows of which some cells are wanted
@@ -80,7 +106,7 @@ pub record IsRowIn (wanted : List Bool) (delimiter : ℕ) (reading : Reading) (c
   pub fields : List Field
   pub flags : List Bool
   pub is : rows_of delimiter line ≡ fields ∷ []
-  pub cells : AreCellsIn wanted 0 reading columns fields row flags
+  pub cells : AreCellsIn wanted 0 reading columns (fitted reading.is_lenient columns fields) row flags
   pub count : refused ≡ refused_of flags
 
 -- the fields of a text are this row; the text begins where a field does
@@ -88,7 +114,7 @@ pub record HasFields (wanted : List Bool) (delimiter : ℕ) (reading : Reading) 
   pub fields : List Field
   pub flags : List Bool
   pub is : field_rows delimiter bytes ≡ fields ∷ []
-  pub cells : AreCellsIn wanted 0 reading columns fields row flags
+  pub cells : AreCellsIn wanted 0 reading columns (fitted reading.is_lenient columns fields) row flags
   pub count : refused ≡ refused_of flags
 
 -- one more, that of this field
@@ -150,7 +176,7 @@ IsFirstError reading place (c ∷ cs) (f ∷ fs) others fault = (TellsWord place
 -- the same of the rows of a record, where the first one is its row
 abbrev pub HasFirstError : Reading → List ColumnType → List (List Field) → RowReadError → Type 0
 HasFirstError reading columns [] fault = ⊥
-HasFirstError reading columns (row ∷ others) fault = IsFirstError reading 0 columns row others fault
+HasFirstError reading columns (row ∷ others) fault = IsFirstError reading 0 columns (fitted reading.is_lenient columns row) others fault
 
 -- why a record with these rows is not taken: no memory was left, or the first fault
 abbrev pub RefusesRows : Reading → List ColumnType → List (List Field) → RowReadError → Type 0

@@ -18,6 +18,15 @@ use std::alloc::Global;
 use vortex_statistics::{ColumnStatistics, StatisticsError};
 use vortex_value::ScalarRef;
 
+/// What is noted of a row.
+#[derive(Clone, Copy, Debug)]
+pub struct RowNotes {
+    /// How many nulls stand in place of fields that their columns do not take.
+    pub refused: usize,
+    /// Whether the record has more fields than columns.
+    pub is_longer: bool,
+}
+
 /// Observes the row of a record, each cell by the statistics of its column; `None` if it has no
 /// row. What they say then, they say of the record too: they are right if they were, and their bounds
 /// are valid scalars if they were.
@@ -26,16 +35,17 @@ use vortex_value::ScalarRef;
 /// refusal some cells may have been observed.
 ///
 /// If the reading is lenient, a field that its column does not take is a null if the column takes
-/// nulls. The answer is how many of them there are. The buffer is used again.
+/// nulls, and so is one that is missing; fields behind those of the last column are passed over. That is
+/// noted. The buffer is used again.
 pub fn observe_record(
     alloc: Global,
     schema: &Schema,
     line: &[u8],
     buffer: &mut Vec<u8>,
     statistics: &mut [ColumnStatistics],
-) -> Result<Option<usize>, ObserveError>
+) -> Result<Option<RowNotes>, ObserveError>
     requires { length statistics.old ≡ length schema.now.columns.items }
-    ensures observed { IfOk result (λ refused. MatchOption refused
+    ensures observed { IfOk result (λ notes. MatchOption notes
         ((rows_of schema.now.delimiter.byte line.now ≡ []) × (statistics.new ≡ statistics.old))
         (IsObserved schema.now.delimiter.byte schema.now.reading schema.now.columns.items line.now
         statistics.old statistics.new)) }
@@ -47,8 +57,8 @@ pub fn observe_record(
     if start.is_empty() {
         return Ok(None);
     }
-    let refused = observe_fields(alloc, schema, start, buffer, statistics)?;
-    Ok(Some(refused))
+    let notes = observe_fields(alloc, schema, start, buffer, statistics)?;
+    Ok(Some(notes))
 }
 
 /// Observes the fields of a text that begins where a field does.
@@ -58,7 +68,7 @@ fn observe_fields(
     text: &[u8],
     buffer: &mut Vec<u8>,
     statistics: &mut [ColumnStatistics],
-) -> Result<usize, ObserveError>
+) -> Result<RowNotes, ObserveError>
     requires { length statistics.old ≡ length schema.now.columns.items }
     ensures fields { IfOk result (AreObserved schema.now.delimiter.byte schema.now.reading
         schema.now.columns.items text.now statistics.old statistics.new) }
@@ -72,7 +82,10 @@ fn observe_fields(
         let flag = observe_field(alloc, &schema.reading, &field, &mut statistics[field.place])?;
         refused = one_more(refused, flag);
     }
-    Ok(refused)
+    Ok(RowNotes {
+        refused,
+        is_longer: walk.is_longer,
+    })
 }
 
 /// Observes the cell of a field, and says whether a null stands in its place.

@@ -18,7 +18,8 @@ use vortex_value::Scalar;
 /// Reads the row of a record; `None` if it has no row, as an empty line.
 ///
 /// If the reading is lenient, a field that its column does not take is a null if the column takes
-/// nulls. The answer is how many of them there are.
+/// nulls, and so is one that is missing; fields behind those of the last column are passed over. The
+/// answer is how many are not taken.
 pub fn read_row(
     alloc: Global,
     schema: &Schema,

@@ -2,7 +2,7 @@
 use Rattle.std.proofs.Common.{◌≡◌, ℕ, zero, suc, ◌+◌, List, [], ◌∷◌, Bool, true, false, Option, None, Some, refl, sym, ap, ap₂, ◌∙◌, subst, map, arith, set}
 use Rattle.record_rows.specs.Cells.{column_type}
 use Rattle.record_rows.specs.Readings.{Reading, is_null_field}
-use Rattle.record_rows.specs.Rows.{AreCellsIn, IsRowIn, IsTakenIf, is_wanted}
+use Rattle.record_rows.specs.Rows.{AreCellsIn, IsRowIn, IsTakenIf, fitted, is_wanted}
 use Rattle.record_rows.specs.declared.schema.ColumnType.{ColumnType}
 use Rattle.csv_records.specs.Rows.{Field}
 use Rattle.vortex_filter.specs.Formula.{Formula, both, cell_at, compare_truth, comparison, constant, either, member_truth, membership, negation, null_test, null_truth, prefix_test, range, range_truth, truth}
@@ -108,7 +108,7 @@ read_as w k l (c ∷ cs) (f ∷ fs) (x ∷ xs) (b ∷ bs) h =
 
 pub row_agrees : (w : List Bool) (d : ℕ) (l : Reading) (columns : List ColumnType) (line : List ℕ) (row : List Scalar) (n : ℕ) → IsRowIn w d l columns line row n → AgreeAsRows w (Some (map cell_of row)) (row_of d l columns line)
 row_agrees w d l columns line row n h =
-    let read = read_as w 0 l columns h.fields row h.flags h.cells in
+    let read = read_as w 0 l columns (fitted l.is_lenient columns h.fields) row h.flags h.cells in
     let is : row_of d l columns line ≡ Some read.cells = ap (only_row l columns) h.is ∙ read.is in
     subst (AgreeAsRows w (Some (map cell_of row))) (sym is) (λ k t. read.agree k k (omega arith) t)
 

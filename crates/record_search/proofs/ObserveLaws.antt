@@ -8,7 +8,8 @@ use Rattle.std.proofs.lemmas.List.{length-map, map-append}
 use Rattle.std.proofs.lemmas.List.Sums.{sum_by-append}
 use Rattle.csv_records.specs.Rows.{Field, rows_of}
 use Rattle.record_rows.specs.Readings.{Reading, is_null_field}
-use Rattle.record_rows.specs.Rows.{refused_of}
+use Rattle.record_rows.specs.Rows.{fitted, refused_of}
+use Rattle.record_rows.specs.declared.observing.RowNotes.{RowNotes}
 use Rattle.record_rows.specs.declared.schema.ColumnType.{ColumnType}
 use Rattle.record_rows.specs.declared.schema.Schema.{Schema}
 use Rattle.record_rows.specs.Observed.{AreFieldsObserved, IsObserved, IsStep, IsTakenAs, SomeIsFull, Step, cell_in}
@@ -23,7 +24,7 @@ use Rattle.vortex_value.specs.Values.Content.{Content}
 use Rattle.zone_index.specs.Encoding.{bytes_encoding}
 use Rattle.zone_index.specs.Sinks.{told}
 use Rattle.record_search.specs.Contents.{cells_of, field_content, only_row, row_of}
-use Rattle.record_search.specs.Searched.{AreAllComplete, AreAllWith, AreDescribed, AreDescribedFully, AreRowsOf, IsCutOf, IsFullOf, IsRightOf, ObservesRow, PushesCut, is_refused, nulls_under, row_under, strict, untaken, untaken_of}
+use Rattle.record_search.specs.Searched.{AreAllComplete, AreAllWith, AreDescribed, AreDescribedFully, AreRowsOf, IsCutOf, IsFullOf, IsRightOf, ObservesRow, PushesCut, is_refused, longer_of, longer_under, nulls_under, row_under, strict, untaken, untaken_of}
 use Rattle.record_search.proofs.DescribeLaws.{all_described, described_more, fully_more, none_described, row_pushed, rows_more}
 use Rattle.record_search.proofs.RefusedLaws.{passed_none, passed_row}
 use Rattle.record_search.proofs.RowLaws.{cell_field, no_content, no_row, null_field}
@@ -52,9 +53,9 @@ fields_observed l columns fields old new n h = (
 )
 
 -- what was observed of a record is its row
-pub row_observed : (d : ℕ) (l : Reading) (columns : List ColumnType) (line : List ℕ) (old new : List ColumnStatistics) (refused : Option ℕ) → MatchOption refused ((rows_of d line ≡ []) × (new ≡ old)) (IsObserved d l columns line old new) → ObservesRow (is_some refused) (row_of d l columns line) old new
+pub row_observed : (d : ℕ) (l : Reading) (columns : List ColumnType) (line : List ℕ) (old new : List ColumnStatistics) (refused : Option RowNotes) → MatchOption refused ((rows_of d line ≡ []) × (new ≡ old)) (IsObserved d l columns line old new) → ObservesRow (is_some refused) (row_of d l columns line) old new
 row_observed d l columns line old new (Some n) h =
-    let p = fields_observed l columns h.0 old new n h.2 in
+    let p = fields_observed l columns (fitted l.is_lenient columns h.0) old new n.refused h.2.0 in
     rw (ap (only_row l columns) h.1 ∙ p.0) p.1
 row_observed d l columns line old new None h = rw (no_row d l columns line h.0) h.1
 
@@ -63,7 +64,7 @@ observes_some (Some cells) old new h = (cells, refl)
 observes_some None old new h = absurd h
 
 -- a record that was observed is not refused
-pub passed_observed : (s : Schema) (line : List ℕ) (old new : List ColumnStatistics) (refused : Option ℕ) → MatchOption refused ((rows_of s.delimiter.byte line ≡ []) × (new ≡ old)) (IsObserved s.delimiter.byte s.reading s.columns.items line old new) → is_refused s line ≡ false
+pub passed_observed : (s : Schema) (line : List ℕ) (old new : List ColumnStatistics) (refused : Option RowNotes) → MatchOption refused ((rows_of s.delimiter.byte line ≡ []) × (new ≡ old)) (IsObserved s.delimiter.byte s.reading s.columns.items line old new) → is_refused s line ≡ false
 passed_observed s line old new None h = passed_none s line h.0
 passed_observed s line old new (Some n) h =
     let some = observes_some (row_under s line) old new (row_observed s.delimiter.byte s.reading s.columns.items line old new (Some n) h) in
@@ -89,13 +90,21 @@ steps_untaken l [] h = refl
 steps_untaken l (s ∷ steps) h = rw (flag_is l s.column s.field s.content s.flag h.0.0, steps_untaken l steps h.1) (count_more s.flag (map (λ (t : Step). t.flag) steps))
 
 -- the nulls that stand in place of fields are those of the record
-pub nulls_observed : (s : Schema) (line : List ℕ) (old new : List ColumnStatistics) (refused : Option ℕ) → MatchOption refused ((rows_of s.delimiter.byte line ≡ []) × (new ≡ old)) (IsObserved s.delimiter.byte s.reading s.columns.items line old new) → unwrap_or refused 0 ≡ nulls_under s line
-nulls_observed s line old new None h = sym (ap (untaken_of s.reading s.columns.items) h.0)
-nulls_observed s line old new (Some n) h =
+pub nulls_observed : (s : Schema) (line : List ℕ) (old new : List ColumnStatistics) (notes : RowNotes) → IsObserved s.delimiter.byte s.reading s.columns.items line old new notes → notes.refused ≡ nulls_under s line
+nulls_observed s line old new notes h =
     let columns = s.columns.items in
-    let all : untaken s.reading columns h.0 ≡ refused_of (map (λ (t : Step). t.flag) h.2.steps) =
-    ap (λ (cs : List ColumnType). untaken s.reading cs h.0) h.2.columns_are ∙ ap (untaken s.reading (map (λ (t : Step). t.column) h.2.steps)) h.2.fields_are ∙ steps_untaken s.reading h.2.steps h.2.each in
-    h.2.count ∙ sym all ∙ sym (ap (untaken_of s.reading columns) h.1)
+    let fields = fitted s.reading.is_lenient columns h.0 in
+    let all : untaken s.reading columns fields ≡ refused_of (map (λ (t : Step). t.flag) h.2.0.steps) =
+    ap (λ (cs : List ColumnType). untaken s.reading cs fields) h.2.0.columns_are ∙ ap (untaken s.reading (map (λ (t : Step). t.column) h.2.0.steps)) h.2.0.fields_are ∙ steps_untaken s.reading h.2.0.steps h.2.0.each in
+    h.2.0.count ∙ sym all ∙ sym (ap (untaken_of s.reading columns) h.1)
+
+-- whether the record is longer is noted
+pub longer_observed : (s : Schema) (line : List ℕ) (old new : List ColumnStatistics) (notes : RowNotes) → IsObserved s.delimiter.byte s.reading s.columns.items line old new notes → from_bool notes.is_longer ≡ longer_under s line
+longer_observed s line old new notes h = ap from_bool h.2.1 ∙ sym (ap (longer_of s.columns.items) h.1)
+
+-- a record without fields has none that are noted
+pub none_noted : (s : Schema) (line : List ℕ) → rows_of s.delimiter.byte line ≡ [] → (0 ≡ nulls_under s line) × (0 ≡ longer_under s line)
+none_noted s line none = (sym (ap (untaken_of s.reading s.columns.items) none), sym (ap (longer_of s.columns.items) none))
 
 -- the sum over the records so far, as far as 64 bits tell
 pub record NullsSeen (f : List ℕ → ℕ) (d : ℕ) (text rest : List ℕ) (nulls : ℕ) : Type 0 where

@@ -3,7 +3,7 @@ use Rattle.std.proofs.Common.{◌≡◌, ◌&&◌, ◌⊎◌, inl, inr, ℕ, suc
 use Rattle.csv_records.specs.Rows.{Field, rows_of}
 use Rattle.record_rows.specs.Cells.{Means}
 use Rattle.record_rows.specs.Readings.{Reading, is_null_field}
-use Rattle.record_rows.specs.Rows.{HasFirstError, IsFirstError, IsUntaken, Refuses}
+use Rattle.record_rows.specs.Rows.{HasFirstError, IsFirstError, IsUntaken, Refuses, fitted}
 use Rattle.record_rows.specs.declared.errors.RowReadError.{RowReadError}
 use Rattle.record_rows.specs.declared.errors.RowReadError.TheVariants as row_faults
 use Rattle.record_rows.specs.declared.schema.ColumnType.{ColumnType}
@@ -49,8 +49,8 @@ cells_none l k (c ∷ cs) [] fault h = refl
 cells_none l k (c ∷ cs) (f ∷ fs) fault (inl p) = rw (null_or_none l c f (is_null_field l c.nullability f) refl p.1) refl
 cells_none l k (c ∷ cs) (f ∷ fs) fault (inr p) = before_none c (field_content l c f) (cells_of l cs fs) (cells_none l (suc k) cs fs fault p.1)
 
-row_none : (l : Reading) (cs : List ColumnType) (fs : List Field) (others : List (List Field)) (fault : RowReadError) → IsFirstError l 0 cs fs others fault → only_row l cs (fs ∷ others) ≡ None
-row_none l cs fs [] fault h = cells_none l 0 cs fs fault h
+row_none : (l : Reading) (cs : List ColumnType) (fs : List Field) (others : List (List Field)) (fault : RowReadError) → IsFirstError l 0 cs (fitted l.is_lenient cs fs) others fault → only_row l cs (fs ∷ others) ≡ None
+row_none l cs fs [] fault h = cells_none l 0 cs (fitted l.is_lenient cs fs) fault h
 row_none l cs fs (next ∷ others) fault h = refl
 
 rows_refused : (l : Reading) (cs : List ColumnType) (rows : List (List Field)) (fault : RowReadError) → HasFirstError l cs rows fault → (has_fields rows && not (is_some (only_row l cs rows))) ≡ true

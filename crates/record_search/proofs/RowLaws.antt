@@ -13,7 +13,7 @@ use Rattle.csv_records.specs.Rows.{Field, rows_of}
 use Rattle.logical_types.specs.declared.logical.LogicalType.{LogicalType}
 use Rattle.record_rows.specs.Cells.{HasNoCell, Means, column_type, stored_content}
 use Rattle.record_rows.specs.Readings.{Reading, is_null_field}
-use Rattle.record_rows.specs.Rows.{AreCells, IsRow, IsTaken}
+use Rattle.record_rows.specs.Rows.{AreCells, IsRow, IsTaken, fitted}
 use Rattle.record_rows.specs.Words.{IsIntegerWord}
 use Rattle.record_rows.specs.declared.schema.ColumnType.{ColumnType}
 use Rattle.record_rows.specs.declared.schema.Kind.{Kind}
@@ -146,7 +146,7 @@ cells_are l (c ∷ cs) (f ∷ fs) (x ∷ xs) (b ∷ bs) h =
     rw (one.content, cells_are l cs fs xs bs h.1) (ap (λ (y : Cell). Some (y ∷ map cell_of xs)) (sym (cell_made c x one.typed)))
 
 pub row_is : (d : ℕ) (l : Reading) (columns : List ColumnType) (line : List ℕ) (row : List Scalar) (n : ℕ) → IsRow d l columns line row n → row_of d l columns line ≡ Some (map cell_of row)
-row_is d l columns line row n h = ap (only_row l columns) h.is ∙ cells_are l columns h.fields row h.flags h.cells
+row_is d l columns line row n h = ap (only_row l columns) h.is ∙ cells_are l columns (fitted l.is_lenient columns h.fields) row h.flags h.cells
 
 pub no_row : (d : ℕ) (l : Reading) (columns : List ColumnType) (line : List ℕ) → rows_of d line ≡ [] → row_of d l columns line ≡ None
 no_row d l columns line h = ap (only_row l columns) h
@@ -169,7 +169,7 @@ cells_typed l (c ∷ cs) (f ∷ fs) xs e =
 
 only_typed : (l : Reading) (cs : List ColumnType) (rows : List (List Field)) (xs : List Cell) → only_row l cs rows ≡ Some xs → AreCellsOf cs xs
 only_typed l cs [] xs e = absurd cc
-only_typed l cs (fields ∷ []) xs e = cells_typed l cs fields xs e
+only_typed l cs (fields ∷ []) xs e = cells_typed l cs (fitted l.is_lenient cs fields) xs e
 only_typed l cs (fields ∷ more ∷ rest) xs e = absurd cc
 
 rows_typed : (cs : List ColumnType) (h : List ℕ → Option (List Cell)) (records : List (List ℕ)) → ((line : List ℕ) (xs : List Cell) → h line ≡ Some xs → AreCellsOf cs xs) → AreRowsOf cs (filter_map h records)

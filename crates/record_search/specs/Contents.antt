@@ -10,6 +10,7 @@ use Rattle.hex.specs.declared.error.FromHexError.{FromHexError}
 use Rattle.csv_records.specs.Rows.{Field, rows_of}
 use Rattle.record_rows.specs.Cells.{column_type, stored_content}
 use Rattle.record_rows.specs.Readings.{Reading, is_null_field}
+use Rattle.record_rows.specs.Rows.{fitted}
 use Rattle.record_rows.specs.declared.schema.ColumnType.{ColumnType}
 use Rattle.record_rows.specs.declared.schema.Kind.{Kind}
 use Rattle.record_rows.specs.declared.schema.Kind.TheVariants as kinds
@@ -68,7 +69,7 @@ cells_of reading (c ∷ cs) (f ∷ fs) = cell_before c (field_content reading c 
 -- the row of a record whose rows by `csv` are these
 abbrev pub only_row : Reading → List ColumnType → List (List Field) → Option (List Cell)
 only_row reading columns [] = None
-only_row reading columns (fields ∷ []) = cells_of reading columns fields
+only_row reading columns (fields ∷ []) = cells_of reading columns (fitted reading.is_lenient columns fields)
 only_row reading columns (fields ∷ more ∷ rest) = None
 
 -- the row of a record; none where it has none, as an empty line, or where the columns do not take it

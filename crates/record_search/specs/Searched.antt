@@ -1,11 +1,12 @@
 -- Which records match, and what statistics say of their rows.
-use Rattle.std.specs.Prelude.{◌≡◌, ◌⊎◌, ◌++◌, ◌<◌, ◌^◌, ◌&&◌, ℕ, suc, List, [], ◌∷◌, Bool, false, true, Option, None, Some, Vec, filter_map, if◌then◌else◌, is_some, length, map, not, ◌+◌, is_none}
+use Rattle.std.specs.Prelude.{◌≡◌, ◌⊎◌, ◌++◌, ◌<◌, ◌^◌, ◌&&◌, ℕ, suc, List, [], ◌∷◌, Bool, false, true, Option, None, Some, Vec, filter_map, if◌then◌else◌, is_some, length, map, nat_lt, not, ◌+◌, is_none}
 use Rattle.std.specs.Global.{Global}
 use Rattle.std.specs.List.{AllByRecursion, flat_map}
 use Rattle.csv_records.specs.Records.{records_of}
 use Rattle.csv_records.specs.Rows.{Field, rows_of}
 use Rattle.record_rows.specs.Cells.{column_type}
 use Rattle.record_rows.specs.Readings.{Reading}
+use Rattle.record_rows.specs.Rows.{fitted}
 use Rattle.record_rows.specs.declared.schema.ColumnType.{ColumnType}
 use Rattle.vortex_dtype.specs.TypeTree.{TypeTree}
 use Rattle.vortex_filter.specs.Formula.{Formula, is_match}
@@ -179,11 +180,20 @@ untaken reading (c ∷ cs) (f ∷ fs) = (if is_none (field_content (strict readi
 -- the same of the first row of a record
 abbrev pub untaken_of : Reading → List ColumnType → List (List Field) → ℕ
 untaken_of reading columns [] = 0
-untaken_of reading columns (fields ∷ rows) = untaken reading columns fields
+untaken_of reading columns (fields ∷ rows) = untaken reading columns (fitted reading.is_lenient columns fields)
 
 -- how many fields of a record stand as a null since their columns do not take them
 abbrev pub nulls_under : Schema → List ℕ → ℕ
 nulls_under s line = untaken_of s.reading s.columns.items (rows_of s.delimiter.byte line)
+
+-- 1 if the first row of a record has more fields than columns, else 0
+abbrev pub longer_of : List ColumnType → List (List Field) → ℕ
+longer_of columns [] = 0
+longer_of columns (fields ∷ rows) = if nat_lt (length columns) (length fields) then 1 else 0
+
+-- the same of a record
+abbrev pub longer_under : Schema → List ℕ → ℕ
+longer_under s line = longer_of s.columns.items (rows_of s.delimiter.byte line)
 
 -- ---- an index and what is found by it
 

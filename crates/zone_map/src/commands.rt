@@ -310,7 +310,7 @@ fn add_reading<'a>(alloc: Global, command: Command<'a>) -> Result<Command<'a>, A
         ))?
         .arg(null_arg(alloc))?
         .arg(flag(alloc, "lenient").help(
-            "Take a field that its column does not take as a null, where the column takes nulls",
+            "Take a field that its column does not take, or that is missing, as a null, where the column takes nulls",
         ))
 }
 

@@ -171,16 +171,18 @@ fn finish(
 ) -> Result<(), ProgramError> {
     let Unfinished { mut loaded, place } = unfinished;
     let schema = loaded.setup.schema(rt.alloc())?;
-    let nulls = add_zones(rt, name, file, &schema, place, &mut loaded)?;
+    let (nulls, longer) = add_zones(rt, name, file, &schema, place, &mut loaded)?;
     save(rt, name, loaded.setup.columns.len(), &loaded.index)?;
     if schema.reading.is_lenient() {
-        let _ = eprintln!(rt; "{nulls} fields were taken as nulls");
+        let _ = eprintln!(rt;
+            "{nulls} fields were taken as nulls; of {longer} records the fields too many were passed over"
+        );
     }
     Ok(())
 }
 
 /// Adds the zones of a file from this offset on, and what the file is then. Says how many of its
-/// fields were taken as nulls.
+/// fields were taken as nulls, and how many of its records have more fields than columns.
 fn add_zones(
     rt: &HostRuntime,
     name: &str,
@@ -188,18 +190,14 @@ fn add_zones(
     schema: &Schema,
     place: u64,
     loaded: &mut Loaded,
-) -> Result<u64, ProgramError> {
+) -> Result<(u64, u64), ProgramError> {
     let before = stamp_of(rt.alloc(), name, file)?;
     let left = before.length.saturating_sub(place);
-    let Indexed { mut zones, nulls } = zones_from(
-        rt,
-        name,
-        file,
-        schema,
-        place,
-        left,
-        &loaded.setup,
-    )?;
+    let Indexed {
+        mut zones,
+        nulls,
+        longer,
+    } = zones_from(rt, name, file, schema, place, left, &loaded.setup)?;
     let after = stamp_of(rt.alloc(), name, file)?;
     if before != after || end_of(place, &zones) != before.length {
         return Err(ProgramError::of_file(rt.alloc(), name, FileError::Changing));
@@ -207,7 +205,7 @@ fn add_zones(
     loaded.index.zones.append(&mut zones)?;
     loaded.index.file_length = before.length;
     loaded.index.changed = before.changed;
-    Ok(nulls)
+    Ok((nulls, longer))
 }
 
 /// The zones of a file from this offset on, of which so many bytes are left.

@@ -205,7 +205,7 @@ impl Display for BadRecord<'_> {
             Cause::Word { column, word } => write_bad_word(f, self.columns, *column, word),
             Cause::FieldCount => write!(
                 f,
-                "the record has fewer fields than the {} columns, or more",
+                "the record has fewer fields than the {} columns, or more; --lenient takes it, where columns take nulls",
                 self.columns.len()
             ),
             Cause::LoneReturn => {

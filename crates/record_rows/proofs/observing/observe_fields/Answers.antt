@@ -19,8 +19,8 @@ pub offset_bounds-statistics-field : goal.offset_bounds-statistics-field
 offset_bounds-statistics-field c =
     let s = c.args.schema.now in
     let b = c.loop-field.invariant.0 in
-    let is : IsNext s.delimiter.byte s.columns.items c.args.text.now c.next_field.new.self (map (λ (p : Step). p.field) b.steps) c.in-Some.field =
-    rw c.in-Some.is at (c.in_ok-field.ensures.next s.delimiter.byte s.columns.items c.args.text.now (map (λ (p : Step). p.field) b.steps) b.walked) in
+    let is : IsNext s.delimiter.byte s.reading s.columns.items c.args.text.now c.next_field.new.self (map (λ (p : Step). p.field) b.steps) c.in-Some.field =
+    rw c.in-Some.is at (c.in_ok-field.ensures.next s.delimiter.byte s.reading s.columns.items c.args.text.now (map (λ (p : Step). p.field) b.steps) b.walked) in
     let within : c.in-Some.field.place < length c.loop-field.statistics = omega (arith, c.requires, b.stepped.long, is.within) in
     search rules
 
@@ -28,8 +28,8 @@ pub bounds-statistics-field : goal.bounds-statistics-field
 bounds-statistics-field c =
     let s = c.args.schema.now in
     let b = c.loop-field.invariant.0 in
-    let is : IsNext s.delimiter.byte s.columns.items c.args.text.now c.next_field.new.self (map (λ (p : Step). p.field) b.steps) c.in-Some.field =
-    rw c.in-Some.is at (c.in_ok-field.ensures.next s.delimiter.byte s.columns.items c.args.text.now (map (λ (p : Step). p.field) b.steps) b.walked) in
+    let is : IsNext s.delimiter.byte s.reading s.columns.items c.args.text.now c.next_field.new.self (map (λ (p : Step). p.field) b.steps) c.in-Some.field =
+    rw c.in-Some.is at (c.in_ok-field.ensures.next s.delimiter.byte s.reading s.columns.items c.args.text.now (map (λ (p : Step). p.field) b.steps) b.walked) in
     omega (arith, c.requires, b.stepped.long, is.within)
 
 pub returns-in_err-flag-clause-refused : goal.returns-in_err-flag-clause-refused
@@ -38,8 +38,8 @@ returns-in_err-flag-clause-refused c =
     let s = c.args.schema.now in
     let b = c.loop-field.invariant.0 in
     let fields = map (λ (p : Step). p.field) b.steps in
-    let is : IsNext s.delimiter.byte s.columns.items c.args.text.now c.next_field.new.self fields c.in-Some.field =
-    rw c.in-Some.is at (c.in_ok-field.ensures.next s.delimiter.byte s.columns.items c.args.text.now fields b.walked) in
+    let is : IsNext s.delimiter.byte s.reading s.columns.items c.args.text.now c.next_field.new.self fields c.in-Some.field =
+    rw c.in-Some.is at (c.in_ok-field.ensures.next s.delimiter.byte s.reading s.columns.items c.args.text.now fields b.walked) in
     let i = c.in-Some.field.place in
     let within : i < length c.loop-field.statistics = omega (arith, c.requires, b.stepped.long, is.within) in
     rw (p.1, p.2) (not_observed s.delimiter.byte s.reading s.columns.items c.args.text.now c.loop-field.walk c.next_field.new.self c.in-Some.field c.args.statistics.now c.loop-field.statistics (get_or c.loop-field.statistics i c.index-statistics-field.result) c.loop-field.refused c.in_err-flag.field-0.0
@@ -50,8 +50,8 @@ loop-field-preserved c =
     let s = c.args.schema.now in
     let b = c.loop-field.invariant.0 in
     let fields = map (λ (p : Step). p.field) b.steps in
-    let is : IsNext s.delimiter.byte s.columns.items c.args.text.now c.next_field.new.self fields c.in-Some.field =
-    rw c.in-Some.is at (c.in_ok-field.ensures.next s.delimiter.byte s.columns.items c.args.text.now fields b.walked) in
+    let is : IsNext s.delimiter.byte s.reading s.columns.items c.args.text.now c.next_field.new.self fields c.in-Some.field =
+    rw c.in-Some.is at (c.in_ok-field.ensures.next s.delimiter.byte s.reading s.columns.items c.args.text.now fields b.walked) in
     let moves = rw c.in-Some.is at c.in_ok-field.ensures.moves in
     let i = c.in-Some.field.place in
     let within : i < length c.loop-field.statistics = omega (arith, c.requires, b.stepped.long, is.within) in (
@@ -64,5 +64,5 @@ pub returns-clause-fields : goal.returns-clause-fields
 returns-clause-fields c =
     let s = c.args.schema.now in
     let b = c.loop-field.invariant.0 in
-    let none = rw c.in_default.is at (c.in_ok-field.ensures.next s.delimiter.byte s.columns.items c.args.text.now (map (λ (p : Step). p.field) b.steps) b.walked) in
+    let none = rw c.in_default.is at (c.in_ok-field.ensures.next s.delimiter.byte s.reading s.columns.items c.args.text.now (map (λ (p : Step). p.field) b.steps) b.walked) in
     ended s.delimiter.byte s.reading s.columns.items c.args.text.now c.loop-field.walk c.next_field.new.self c.args.statistics.now c.loop-field.statistics c.loop-field.refused c.requires b none

@@ -48,5 +48,8 @@ returns-clause-full c =
 pub returns-clause-nulls : goal.returns-clause-nulls
 returns-clause-nulls c = c.in_ok-records.ensures.nulls
 
+pub returns-clause-longer : goal.returns-clause-longer
+returns-clause-longer c = c.in_ok-records.ensures.longer
+
 pub returns-clause-passed : goal.returns-clause-passed
 returns-clause-passed c = c.in_ok-records.ensures.passed
