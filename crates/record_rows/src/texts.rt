@@ -96,18 +96,22 @@ pub fn is_whole_record(alloc: Global, delimiter: Delimiter, line: &[u8]) -> Resu
     if start.is_empty() {
         return Ok(true);
     }
-    is_only_row(alloc, delimiter, start)
+    is_only_row(delimiter, start, &mut Vec::new(alloc))
 }
 
-/// Whether a text has one row. It begins where a field does.
-fn is_only_row(alloc: Global, delimiter: Delimiter, text: &[u8]) -> Result<bool, AllocError>
+/// Whether a text has one row. It begins where a field does. The buffer takes the bytes of fields in
+/// quotes.
+pub(crate) fn is_only_row(
+    delimiter: Delimiter,
+    text: &[u8],
+    buffer: &mut Vec<u8>,
+) -> Result<bool, AllocError>
     ensures { IfOk result (λ only. MatchBool only
         (length (field_rows delimiter.byte text.now) ≡ 1) (1 < length (field_rows delimiter.byte text.now))) }
 {
     let mut rest = text;
-    let mut buffer = Vec::new(alloc);
     while !rest.is_empty() {
-        let cut = cut_field(delimiter, rest, &mut buffer)?;
+        let cut = cut_field(delimiter, rest, buffer)?;
         match cut.follows {
             Follows::Another(next) => rest = next,
             Follows::Nothing => return Ok(true),

@@ -116,6 +116,7 @@ a_null : (kind : Kind) → IsValue (type_by kind Nullable) null
 a_null (kinds.Integer k) = record { value = absent; is_value = record { valid = refl; held = tt }; is = refl }
 a_null kinds.Utf8 = record { value = absent; is_value = record { valid = refl; held = tt }; is = refl }
 a_null kinds.Binary = record { value = absent; is_value = record { valid = refl; held = tt }; is = refl }
+a_null kinds.Bytes = record { value = absent; is_value = record { valid = refl; held = tt }; is = refl }
 a_null (kinds.Logical l) = stored_null (id_of l) (metadata_of l) (storage_type_of l)
 
 a_number : (k : PType) (n : Nullability) (z : ℤ) → in_range k z ≡ true → IsValue (type_by (kinds.Integer k) n) (whole z)
@@ -135,15 +136,19 @@ content_value kind NonNullable null h = absurd cc
 content_value (kinds.Integer k) n (whole z) h = a_number k n z h
 content_value kinds.Utf8 n (whole z) h = absurd cc
 content_value kinds.Binary n (whole z) h = absurd cc
+content_value kinds.Bytes n (whole z) h = absurd cc
 content_value (kinds.Integer k) n (text bs) h = absurd cc
 content_value kinds.Utf8 n (text bs) h = a_text n bs h
 content_value kinds.Binary n (text bs) h = absurd cc
+content_value kinds.Bytes n (text bs) h = absurd cc
 content_value (kinds.Integer k) n (string bs) h = absurd cc
 content_value kinds.Utf8 n (string bs) h = absurd cc
 content_value kinds.Binary n (string bs) h = a_string n bs h
+content_value kinds.Bytes n (string bs) h = a_string n bs h
 content_value (kinds.Integer k) n _ h = absurd cc
 content_value kinds.Utf8 n _ h = absurd cc
 content_value kinds.Binary n _ h = absurd cc
+content_value kinds.Bytes n _ h = absurd cc
 content_value (kinds.Logical l) n (truth b) h = stored_value (id_of l) (metadata_of l) (storage_type_of l) n (truth b) h
 content_value (kinds.Logical l) n (whole z) h = stored_value (id_of l) (metadata_of l) (storage_type_of l) n (whole z) h
 content_value (kinds.Logical l) n (text bs) h = stored_value (id_of l) (metadata_of l) (storage_type_of l) n (text bs) h
@@ -160,12 +165,15 @@ value_content : (kind : Kind) (n : Nullability) (v : RawTree) → IsValueOf (typ
 value_content (kinds.Integer k) n absent h = null_has (kinds.Integer k) n h.valid
 value_content kinds.Utf8 n absent h = null_has kinds.Utf8 n h.valid
 value_content kinds.Binary n absent h = null_has kinds.Binary n h.valid
+value_content kinds.Bytes n absent h = null_has kinds.Bytes n h.valid
 value_content (kinds.Integer k) n (raw_integer l z) h = in_range_true k z h.valid.1
 value_content (kinds.Integer k) n _ h = absurd h.valid
 value_content kinds.Utf8 n (raw_text bs) h = and_from (is_utf8 bs) (are_bytes bs) (is_utf8-from_IsUtf8 bs h.held.1) (bytes_to bs h.held.0)
 value_content kinds.Utf8 n _ h = absurd h.valid
 value_content kinds.Binary n (raw_bytes bs) h = bytes_to bs h.held
 value_content kinds.Binary n _ h = absurd h.valid
+value_content kinds.Bytes n (raw_bytes bs) h = bytes_to bs h.held
+value_content kinds.Bytes n _ h = absurd h.valid
 value_content (kinds.Logical l) n absent h = null_has (kinds.Logical l) n (null_stored (id_of l) (metadata_of l) (storage_type_of l) n h)
 value_content (kinds.Logical l) n (raw_bool b) h = value_stored (id_of l) (metadata_of l) (storage_type_of l) n (raw_bool b) (λ e. cc) h
 value_content (kinds.Logical l) n (raw_integer p z) h = value_stored (id_of l) (metadata_of l) (storage_type_of l) n (raw_integer p z) (λ e. cc) h
@@ -179,6 +187,7 @@ no_variant : (kind : Kind) (n : Nullability) → HasNoVariant (type_by kind n)
 no_variant (kinds.Integer k) n = tt
 no_variant kinds.Utf8 n = tt
 no_variant kinds.Binary n = tt
+no_variant kinds.Bytes n = tt
 no_variant (kinds.Logical l) n = stored_variant (id_of l) (metadata_of l) (storage_type_of l) n
 
 flat_content : (kind : Kind) (n : Nullability) (c : Content) → has_content kind n c ≡ true → IsFlat c
@@ -186,6 +195,7 @@ flat_content kind n null h = tt
 flat_content (kinds.Integer k) n (whole z) h = whole_held k z h
 flat_content kinds.Utf8 n (whole z) h = absurd cc
 flat_content kinds.Binary n (whole z) h = absurd cc
+flat_content kinds.Bytes n (whole z) h = absurd cc
 flat_content (kinds.Logical l) n (whole z) h = flat_stored (storage_type_of l) (whole z) h
 flat_content (kinds.Logical l) n (truth b) h = flat_stored (storage_type_of l) (truth b) h
 flat_content (kinds.Logical l) n (sequence cs) h = flat_stored (storage_type_of l) (sequence cs) h
@@ -196,6 +206,7 @@ flat_content kind n (string bs) h = tt
 flat_content (kinds.Integer k) n _ h = absurd cc
 flat_content kinds.Utf8 n _ h = absurd cc
 flat_content kinds.Binary n _ h = absurd cc
+flat_content kinds.Bytes n _ h = absurd cc
 
 -- ---- bounds
 

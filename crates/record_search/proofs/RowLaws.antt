@@ -11,8 +11,9 @@ use Rattle.hex.specs.Hex.{decode_of}
 use Rattle.hex.specs.declared.error.FromHexError.{FromHexError}
 use Rattle.csv_records.specs.Rows.{Field, rows_of}
 use Rattle.logical_types.specs.declared.logical.LogicalType.{LogicalType}
-use Rattle.record_rows.specs.Cells.{HasNoCell, Means, column_type, is_null_field, stored_content}
-use Rattle.record_rows.specs.Rows.{AreCells, IsRow, IsTaken}
+use Rattle.record_rows.specs.Cells.{HasNoCell, Means, column_type, stored_content}
+use Rattle.record_rows.specs.Readings.{Reading, is_null_field}
+use Rattle.record_rows.specs.Rows.{AreCells, IsRow, IsTaken, fitted}
 use Rattle.record_rows.specs.Words.{IsIntegerWord}
 use Rattle.record_rows.specs.declared.schema.ColumnType.{ColumnType}
 use Rattle.record_rows.specs.declared.schema.Kind.{Kind}
@@ -29,7 +30,7 @@ use Rattle.vortex_value.specs.Values.Content.{Content, null, string, text, whole
 use Rattle.vortex_value.specs.Values.Scalars.{scalar_content, scalar_type}
 use Rattle.vortex_value.specs.declared.scalars.Scalar.{Scalar}
 use Rattle.record_search.specs.Contents.{bytes_content, cell_before, cells_of, field_content, is_integer_word, is_numeral, only_row, or_null, row_of, word_content}
-use Rattle.record_search.specs.Searched.{AreCellsOf, AreRowsOf}
+use Rattle.record_search.specs.Searched.{AreCellsOf, AreRowsOf, strict}
 use Rattle.record_search.specs.Storages.{storage_in}
 use Rattle.record_search.proofs.StorageLaws.{storage_from, storage_to}
 
@@ -73,6 +74,7 @@ word_to : (kind : Kind) (word : List ℕ) (c : Content) → Means kind word c �
 word_to (kinds.Integer k) word c h = rw (integer_to k word h.0 h.1) (ap (λ (z : ℤ). Some (whole z)) h.1.value ∙ ap (λ (d : Content). Some d) (sym h.2))
 word_to kinds.Utf8 word c h = rw (is_utf8-from_IsUtf8 word h.0) (ap (λ (d : Content). Some d) (sym h.1))
 word_to kinds.Binary word c h = ap bytes_content h.1 ∙ ap (λ (d : Content). Some d) (sym h.2)
+word_to kinds.Bytes word c h = ap (λ (d : Content). Some d) (sym h)
 word_to (kinds.Logical l) word c h = ap (option_map (stored_content l)) (storage_to l word h.0 h.1) ∙ ap (λ (d : Content). Some d) (sym h.2)
 
 stored_from : (l : LogicalType) (o : Option ℤ) (c : Content) → option_map (stored_content l) o ≡ Some c → (z : ℤ) × (o ≡ Some z) × (c ≡ stored_content l z)
@@ -87,41 +89,42 @@ word_from kinds.Utf8 word c e =
     let p = chosen_content (is_utf8 word) (text word) c e in
     (IsUtf8-from_is_utf8 word p.0, sym p.1)
 word_from kinds.Binary word c e = bytes_from (decode_of word) c e
+word_from kinds.Bytes word c e = cc
 word_from (kinds.Logical l) word c e = let p = stored_from l (storage_in l word) c e in (p.0, storage_from l word p.0 p.1, p.2)
 
 -- ---- fields
 
-pub cell_field : (l : Bool) (column : ColumnType) (f : Field) (c : Content) (b : Bool) → is_null_field column.nullability f ≡ b → MatchBool b (c ≡ null) (Means column.kind f.text c) → field_content l column f ≡ Some c
+pub cell_field : (l : Reading) (column : ColumnType) (f : Field) (c : Content) (b : Bool) → is_null_field l column.nullability f ≡ b → MatchBool b (c ≡ null) (Means column.kind f.text c) → field_content l column f ≡ Some c
 cell_field l column f c true e h = rw e (ap (λ (d : Content). Some d) (sym h))
 cell_field l column f c false e h = rw (e, word_to column.kind f.text c h) refl
 
-pub none_word : (column : ColumnType) (f : Field) (o : Option Content) → word_content column.kind f.text ≡ o → is_null_field column.nullability f ≡ false → HasNoCell column f → o ≡ None
-none_word column f None e other none = refl
-none_word column f (Some c) e other none = absurd (none c (subst (λ (b : Bool). MatchBool b (c ≡ null) (Means column.kind f.text c)) (sym other) (word_from column.kind f.text c e)))
+pub none_word : (l : Reading) (column : ColumnType) (f : Field) (o : Option Content) → word_content column.kind f.text ≡ o → is_null_field l column.nullability f ≡ false → HasNoCell l column f → o ≡ None
+none_word l column f None e other none = refl
+none_word l column f (Some c) e other none = absurd (none c (subst (λ (b : Bool). MatchBool b (c ≡ null) (Means column.kind f.text c)) (sym other) (word_from column.kind f.text c e)))
 
 -- the column does not take the field
-pub no_content : (column : ColumnType) (f : Field) (b : Bool) → is_null_field column.nullability f ≡ b → HasNoCell column f → field_content false column f ≡ None
-no_content column f true e none = absurd (none null (subst (λ (b : Bool). MatchBool b (null ≡ null) (Means column.kind f.text null)) (sym e) refl))
-no_content column f false e none = rw (e, none_word column f (word_content column.kind f.text) refl e none) refl
+pub no_content : (l : Reading) (column : ColumnType) (f : Field) (b : Bool) → is_null_field l column.nullability f ≡ b → HasNoCell l column f → field_content (strict l) column f ≡ None
+no_content l column f true e none = absurd (none null (subst (λ (b : Bool). MatchBool b (null ≡ null) (Means column.kind f.text null)) (sym e) refl))
+no_content l column f false e none = rw (e, none_word l column f (word_content column.kind f.text) refl e none) refl
 
 lenient_null : (l : Bool) (n : Nullability) → l ≡ true → n ≡ Nullable → or_null l n None ≡ Some null
 lenient_null true Nullable e h = refl
 lenient_null true NonNullable e h = absurd cc
 lenient_null false n e h = absurd cc
 
-pub null_field : (l : Bool) (column : ColumnType) (f : Field) (b : Bool) → is_null_field column.nullability f ≡ b → l ≡ true → column.nullability ≡ Nullable → HasNoCell column f → field_content l column f ≡ Some null
+pub null_field : (l : Reading) (column : ColumnType) (f : Field) (b : Bool) → is_null_field l column.nullability f ≡ b → l.is_lenient ≡ true → column.nullability ≡ Nullable → HasNoCell l column f → field_content l column f ≡ Some null
 null_field l column f true e asked takes none = rw e refl
-null_field l column f false e asked takes none = rw (e, none_word column f (word_content column.kind f.text) refl e none) (lenient_null l column.nullability asked takes)
+null_field l column f false e asked takes none = rw (e, none_word l column f (word_content column.kind f.text) refl e none) (lenient_null l.is_lenient column.nullability asked takes)
 
 -- what is taken of a field is what it is in its column
-pub record IsFieldOf (l : Bool) (column : ColumnType) (f : Field) (x : Scalar) : Type 0 where
+pub record IsFieldOf (l : Reading) (column : ColumnType) (f : Field) (x : Scalar) : Type 0 where
   pub content : field_content l column f ≡ Some (scalar_content x)
   pub typed : scalar_type x ≡ column_type column
 
-pub taken_field : (l : Bool) (column : ColumnType) (f : Field) (x : Scalar) (b : Bool) → IsTaken l column f x b → IsFieldOf l column f x
-taken_field l column f x false h = record { content = cell_field l column f (scalar_content x) (is_null_field column.nullability f) refl h.content; typed = h.typed }
+pub taken_field : (l : Reading) (column : ColumnType) (f : Field) (x : Scalar) (b : Bool) → IsTaken l column f x b → IsFieldOf l column f x
+taken_field l column f x false h = record { content = cell_field l column f (scalar_content x) (is_null_field l column.nullability f) refl h.content; typed = h.typed }
 taken_field l column f x true h = record {
-  content = null_field l column f (is_null_field column.nullability f) refl h.asked h.takes h.none ∙ ap (λ (d : Content). Some d) (sym h.content);
+  content = null_field l column f (is_null_field l column.nullability f) refl h.asked h.takes h.none ∙ ap (λ (d : Content). Some d) (sym h.content);
   typed = h.typed;
 }
 
@@ -130,7 +133,7 @@ taken_field l column f x true h = record {
 pub cell_made : (column : ColumnType) (x : Scalar) → scalar_type x ≡ column_type column → cell_of x ≡ record { typed = column_type column; content = scalar_content x }
 cell_made column x e = ap (λ (t : TypeTree). let c : Cell = record { typed = t; content = scalar_content x } in c) e
 
-cells_are : (l : Bool) (cs : List ColumnType) (fs : List Field) (xs : List Scalar) (bs : List Bool) → AreCells l cs fs xs bs → cells_of l cs fs ≡ Some (map cell_of xs)
+cells_are : (l : Reading) (cs : List ColumnType) (fs : List Field) (xs : List Scalar) (bs : List Bool) → AreCells l cs fs xs bs → cells_of l cs fs ≡ Some (map cell_of xs)
 cells_are l [] [] [] [] h = refl
 cells_are l [] [] [] (b ∷ bs) h = absurd h
 cells_are l [] [] (x ∷ xs) bs h = absurd h
@@ -142,10 +145,10 @@ cells_are l (c ∷ cs) (f ∷ fs) (x ∷ xs) (b ∷ bs) h =
     let one = taken_field l c f x b h.0 in
     rw (one.content, cells_are l cs fs xs bs h.1) (ap (λ (y : Cell). Some (y ∷ map cell_of xs)) (sym (cell_made c x one.typed)))
 
-pub row_is : (d : ℕ) (l : Bool) (columns : List ColumnType) (line : List ℕ) (row : List Scalar) (n : ℕ) → IsRow d l columns line row n → row_of d l columns line ≡ Some (map cell_of row)
-row_is d l columns line row n h = ap (only_row l columns) h.is ∙ cells_are l columns h.fields row h.flags h.cells
+pub row_is : (d : ℕ) (l : Reading) (columns : List ColumnType) (line : List ℕ) (row : List Scalar) (n : ℕ) → IsRow d l columns line row n → row_of d l columns line ≡ Some (map cell_of row)
+row_is d l columns line row n h = ap (only_row l columns) h.is ∙ cells_are l columns (fitted l.is_lenient columns h.fields) row h.flags h.cells
 
-pub no_row : (d : ℕ) (l : Bool) (columns : List ColumnType) (line : List ℕ) → rows_of d line ≡ [] → row_of d l columns line ≡ None
+pub no_row : (d : ℕ) (l : Reading) (columns : List ColumnType) (line : List ℕ) → rows_of d line ≡ [] → row_of d l columns line ≡ None
 no_row d l columns line h = ap (only_row l columns) h
 
 -- ---- types of cells
@@ -155,7 +158,7 @@ before_is column (Some c) (Some cells) xs e = (c, cells, refl, cc)
 before_is column (Some c) None xs e = absurd cc
 before_is column None r xs e = absurd cc
 
-cells_typed : (l : Bool) (cs : List ColumnType) (fs : List Field) (xs : List Cell) → cells_of l cs fs ≡ Some xs → AreCellsOf cs xs
+cells_typed : (l : Reading) (cs : List ColumnType) (fs : List Field) (xs : List Cell) → cells_of l cs fs ≡ Some xs → AreCellsOf cs xs
 cells_typed l [] [] [] e = tt
 cells_typed l [] [] (x ∷ xs) e = absurd cc
 cells_typed l [] (f ∷ fs) xs e = absurd cc
@@ -164,9 +167,9 @@ cells_typed l (c ∷ cs) (f ∷ fs) xs e =
     let p = before_is c (field_content l c f) (cells_of l cs fs) xs e in
     subst (AreCellsOf (c ∷ cs)) (sym p.3) (refl, cells_typed l cs fs p.1 p.2)
 
-only_typed : (l : Bool) (cs : List ColumnType) (rows : List (List Field)) (xs : List Cell) → only_row l cs rows ≡ Some xs → AreCellsOf cs xs
+only_typed : (l : Reading) (cs : List ColumnType) (rows : List (List Field)) (xs : List Cell) → only_row l cs rows ≡ Some xs → AreCellsOf cs xs
 only_typed l cs [] xs e = absurd cc
-only_typed l cs (fields ∷ []) xs e = cells_typed l cs fields xs e
+only_typed l cs (fields ∷ []) xs e = cells_typed l cs (fitted l.is_lenient cs fields) xs e
 only_typed l cs (fields ∷ more ∷ rest) xs e = absurd cc
 
 rows_typed : (cs : List ColumnType) (h : List ℕ → Option (List Cell)) (records : List (List ℕ)) → ((line : List ℕ) (xs : List Cell) → h line ≡ Some xs → AreCellsOf cs xs) → AreRowsOf cs (filter_map h records)
@@ -178,7 +181,7 @@ rows_typed cs h (line ∷ lines) each = by_row (rows_typed cs h lines each) (h l
     by_row rest (Some xs) e = rw e (each line xs e, rest)
 
 -- each row has a cell of each column's type
-pub rows_are_typed : (d : ℕ) (l : Bool) (columns : List ColumnType) (records : List (List ℕ)) → AreRowsOf columns (filter_map (row_of d l columns) records)
+pub rows_are_typed : (d : ℕ) (l : Reading) (columns : List ColumnType) (records : List (List ℕ)) → AreRowsOf columns (filter_map (row_of d l columns) records)
 rows_are_typed d l columns records = rows_typed columns (row_of d l columns) records (λ line xs e. only_typed l columns (rows_of d line) xs e)
 
 -- the cell in a column is of its type

@@ -86,6 +86,7 @@ has_content kind n null = says_nullable n
 has_content (kinds.Integer ptype) n (whole z) = in_range ptype z
 has_content kinds.Utf8 n (text bs) = is_utf8 bs && are_bytes bs
 has_content kinds.Binary n (string bs) = are_bytes bs
+has_content kinds.Bytes n (string bs) = are_bytes bs
 has_content (kinds.Logical logical) n c = has_stored (storage_type_of logical) c
 has_content kind n c = false
 

@@ -67,7 +67,7 @@ one_decimal d e is =
 abbrev others : List Kind
 others =
     (kinds.Integer ptypes.I8) ∷ (kinds.Integer ptypes.I16) ∷ (kinds.Integer ptypes.I32) ∷ (kinds.Integer ptypes.I64) ∷ (kinds.Integer ptypes.U8)
-    ∷ (kinds.Integer ptypes.U16) ∷ (kinds.Integer ptypes.U32) ∷ (kinds.Integer ptypes.U64) ∷ kinds.Utf8 ∷ kinds.Binary
+    ∷ (kinds.Integer ptypes.U16) ∷ (kinds.Integer ptypes.U32) ∷ (kinds.Integer ptypes.U64) ∷ kinds.Utf8 ∷ kinds.Binary ∷ kinds.Bytes
     ∷ (kinds.Logical Float64) ∷ (kinds.Logical Float32) ∷ (kinds.Logical Date) ∷ (kinds.Logical (Time Seconds)) ∷ (kinds.Logical (Time Milliseconds))
     ∷ (kinds.Logical (Time Microseconds)) ∷ (kinds.Logical (Time Nanoseconds)) ∷ (kinds.Logical (Timestamp Seconds false)) ∷ (kinds.Logical (Timestamp Milliseconds false)) ∷ (kinds.Logical (Timestamp Microseconds false))
     ∷ (kinds.Logical (Timestamp Nanoseconds false)) ∷ (kinds.Logical (Timestamp Seconds true)) ∷ (kinds.Logical (Timestamp Milliseconds true)) ∷ (kinds.Logical (Timestamp Microseconds true)) ∷ (kinds.Logical (Timestamp Nanoseconds true)) ∷ []
@@ -92,6 +92,7 @@ found (kinds.Integer ptypes.U32) = by_word refl
 found (kinds.Integer ptypes.U64) = by_word refl
 found kinds.Utf8 = by_word refl
 found kinds.Binary = by_word refl
+found kinds.Bytes = by_word refl
 found (kinds.Logical Float64) = by_word refl
 found (kinds.Logical Float32) = by_word refl
 found (kinds.Logical Date) = by_word refl
@@ -134,6 +135,7 @@ pub plain_or_none : (word : List ℕ) (r : Option Kind) → ((l : LogicalType) �
 plain_or_none word r none plain (kinds.Integer p) e = plain (kinds.Integer p) tt e
 plain_or_none word r none plain kinds.Utf8 e = plain kinds.Utf8 tt e
 plain_or_none word r none plain kinds.Binary e = plain kinds.Binary tt e
+plain_or_none word r none plain kinds.Bytes e = plain kinds.Bytes tt e
 plain_or_none word r none plain (kinds.Logical l) e = absurd (none l e)
 
 -- ---- marks

@@ -199,6 +199,7 @@ fn push_kind_word(text: &mut String, kind: Kind) -> Result<(), AllocError>
         Kind::Integer(ptype) => text.push_str(integer_word(ptype)),
         Kind::Utf8 => text.push_str("utf8"),
         Kind::Binary => text.push_str("binary"),
+        Kind::Bytes => text.push_str("bytes"),
         Kind::Logical(logical) => {
             let name = name_of_logical_type(logical);
             text.push_str(name.as_str())
@@ -269,6 +270,7 @@ fn plain_kind_of(word: &str) -> Option<Kind>
         "u64" => Kind::Integer(PType::U64),
         "utf8" => Kind::Utf8,
         "binary" => Kind::Binary,
+        "bytes" => Kind::Bytes,
         _ => return None,
     };
     Some(kind)

@@ -75,14 +75,15 @@ pub struct Guessed {
 }
 
 /// The columns of records: named by the header, if it has names, and with kinds that fit these
-/// records. All take nulls.
+/// records, where these words are nulls. All take nulls.
 pub fn guess_columns(
     alloc: Global,
     delimiter: Delimiter,
+    nulls: &[String],
     header: &[u8],
     records: &[u8],
 ) -> Result<Guessed, AllocError> {
-    let guesses = guesses_of(alloc, delimiter, records)?;
+    let guesses = guesses_of(alloc, delimiter, nulls, records)?;
     let given = names_in(alloc, delimiter, header)?;
     let count = guesses.len().max(given.len()).max(1);
     let names = names_for(alloc, delimiter.byte != NO_DELIMITER, count, &given)?;
@@ -131,13 +132,14 @@ fn without_mark(text: &[u8]) -> &[u8] {
 fn guesses_of(
     alloc: Global,
     delimiter: Delimiter,
+    nulls: &[String],
     records: &[u8],
 ) -> Result<Vec<Guess>, AllocError> {
     let mut guesses = Vec::new(alloc);
     let mut rest = records;
     while !rest.is_empty() {
         let (line, after) = cut_record(delimiter, rest);
-        guess_record(alloc, delimiter, line, &mut guesses)?;
+        guess_record(alloc, delimiter, nulls, line, &mut guesses)?;
         rest = after;
     }
     Ok(guesses)
@@ -147,6 +149,7 @@ fn guesses_of(
 fn guess_record(
     alloc: Global,
     delimiter: Delimiter,
+    nulls: &[String],
     line: &[u8],
     guesses: &mut Vec<Guess>,
 ) -> Result<(), AllocError> {
@@ -156,11 +159,21 @@ fn guess_record(
     let mut fields = Fields::of(delimiter, line);
     while let Some(field) = fields.next_field(&mut buffer)? {
         if is_first {
-            guesses.push(Guess::FIRST.after(field.word, field.is_quoted))?;
+            guesses.push(guess_after(Guess::FIRST, nulls, &field))?;
         } else if let Some(guess) = guesses.get_mut(place) {
-            *guess = guess.after(field.word, field.is_quoted);
+            *guess = guess_after(*guess, nulls, &field);
         }
         place = place.saturating_add(1);
     }
     Ok(())
+}
+
+/// A guess after one more field, where these words are nulls.
+fn guess_after(guess: Guess, nulls: &[String], field: &SeenField<'_>) -> Guess {
+    let is_null = field.word.is_empty() || nulls.iter().any(|null| null.as_bytes() == field.word);
+    if is_null && !field.is_quoted {
+        guess
+    } else {
+        guess.after(field.word)
+    }
 }

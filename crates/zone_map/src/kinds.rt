@@ -108,11 +108,8 @@ impl Guess {
         timestamps: Timestamps::FIRST,
     };
 
-    /// What is known after one more field. One without a byte and without quotes is a null.
-    pub fn after(self, word: &[u8], is_quoted: bool) -> Guess {
-        if word.is_empty() && !is_quoted {
-            return self;
-        }
+    /// What is known after one more word, which is no null.
+    pub fn after(self, word: &[u8]) -> Guess {
         let (is_signed, is_unsigned) = integers_of(word);
         Guess {
             is_seen: true,

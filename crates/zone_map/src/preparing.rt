@@ -3,7 +3,7 @@
 use crate::column_words::{NamedColumn, columns_in, columns_text, push_name};
 use crate::commands::Reading;
 use crate::guessing::{Guessed, guess_columns, names_in};
-use crate::names::stands_in;
+use crate::names::{is_line, stands_in};
 use crate::program_errors::ProgramError;
 use crate::setup::{Numbers, Setup, delimiter_in};
 use csv_records::Delimiter;
@@ -40,11 +40,12 @@ pub fn prepare<B: BufRead>(
         None => Vec::new(alloc),
     };
     let header = first_records(alloc, delimiter, u64::from(reading.has_header), reader)?;
+    let nulls = null_words(alloc, &reading.nulls)?;
     let guesses = guesses_others(alloc, reading, delimiter, &header, &given)?;
     let guessed_from = if guesses { GUESSED_FROM } else { 0 };
     let first = first_records(alloc, delimiter, guessed_from, reader)?;
     let (columns, told) = if guesses {
-        with_guessed(alloc, delimiter, &header, &first, given)?
+        with_guessed(alloc, delimiter, &nulls, &header, &first, given)?
     } else {
         (given, None)
     };
@@ -55,11 +56,27 @@ pub fn prepare<B: BufRead>(
         zone_rows: 0,
     };
     Ok(Prepared {
-        setup: Setup { numbers, columns },
+        setup: Setup {
+            numbers,
+            nulls,
+            columns,
+        },
         start: header.len() as u64,
         first,
         told,
     })
+}
+
+/// The words that are nulls, each of one line.
+fn null_words(alloc: Global, words: &[&str]) -> Result<Vec<String>, ProgramError> {
+    let mut nulls = Vec::new(alloc);
+    for word in words {
+        if !is_line(word) {
+            return Err(ProgramError::Fixed("--null: a word of one line"));
+        }
+        nulls.push(String::from_str(alloc, word)?)?;
+    }
+    Ok(nulls)
 }
 
 /// So many records of a stream, or all that are left.
@@ -96,6 +113,7 @@ fn guesses_others(
 fn with_guessed(
     alloc: Global,
     delimiter: Delimiter,
+    nulls: &[String],
     header: &[u8],
     first: &[u8],
     given: Vec<NamedColumn>,
@@ -103,7 +121,7 @@ fn with_guessed(
     let Guessed {
         mut columns,
         have_numbers,
-    } = guess_columns(alloc, delimiter, header, first)?;
+    } = guess_columns(alloc, delimiter, nulls, header, first)?;
     let mut notes = String::new(alloc);
     for (place, guessed) in columns.iter_mut().enumerate() {
         let has_numbers = have_numbers.get(place).copied().unwrap_or(false);

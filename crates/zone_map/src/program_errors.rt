@@ -2,7 +2,6 @@
 
 use crate::column_words::{NamedColumn, is_plain_name};
 use filter_sql::ParseError;
-use record_rows::Kind;
 use std::alloc::{AllocError, AllocFailed, Global};
 use std::fmt::{self, Display, Formatter, Write};
 use std::{io, str};
@@ -206,7 +205,7 @@ impl Display for BadRecord<'_> {
             Cause::Word { column, word } => write_bad_word(f, self.columns, *column, word),
             Cause::FieldCount => write!(
                 f,
-                "the record has fewer fields than the {} columns, or more",
+                "the record has fewer fields than the {} columns, or more; --lenient takes it, where columns take nulls",
                 self.columns.len()
             ),
             Cause::LoneReturn => {
@@ -230,24 +229,23 @@ fn write_bad_word<W: Write>(
     f.write_str(" does not take ")?;
     write_word(f, word)?;
     match columns.get(column as usize) {
-        Some(named) => write_ways_out(f, named),
+        Some(named) => write_ways_out(f, named, word),
         None => Ok(()),
     }
 }
 
-/// Writes what takes a word that a column does not: a column of text, or a null in its place.
-fn write_ways_out<W: Write>(f: &mut Formatter<W>, named: &NamedColumn) -> fmt::Result {
-    let is_text = match named.column.kind {
-        Kind::Utf8 => true,
-        _ => false,
+/// Writes what takes a word that a column does not: a column of text, or of bytes if the word is no UTF-8,
+/// or a null in its place.
+fn write_ways_out<W: Write>(f: &mut Formatter<W>, named: &NamedColumn, word: &[u8]) -> fmt::Result {
+    let (kind, taken) = match str::from_utf8(word) {
+        Ok(_) => ("utf8", "text"),
+        Err(_) => ("bytes", "its bytes"),
     };
     let takes_null = named.column.nullability == Nullability::Nullable;
-    if !is_text {
-        f.write_str("; --columns '")?;
-        write_name(f, &named.name)?;
-        f.write_str(if takes_null { " utf8?" } else { " utf8" })?;
-        f.write_str("' takes it as text")?;
-    }
+    let mark = if takes_null { "?" } else { "" };
+    f.write_str("; --columns '")?;
+    write_name(f, &named.name)?;
+    write!(f, " {kind}{mark}' takes it as {taken}")?;
     if takes_null {
         f.write_str("; --lenient takes it as a null")?;
     }

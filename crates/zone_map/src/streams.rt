@@ -146,7 +146,11 @@ fn lines_setup(alloc: Global) -> Result<Setup, ProgramError> {
         zone_rows: 0,
     };
     let columns = vec![in alloc; line]?;
-    Ok(Setup { numbers, columns })
+    Ok(Setup {
+        numbers,
+        nulls: Vec::new(alloc),
+        columns,
+    })
 }
 
 /// Standard output, through a buffer.
