@@ -11,4 +11,3 @@ pub mod ReadColumns
 pub mod RefusedLaws
 pub mod RowLaws
 pub mod SearchLaws
-pub mod StorageLaws

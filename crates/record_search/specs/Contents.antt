@@ -7,6 +7,7 @@ use Rattle.std.specs.Option.{option_map}
 use Rattle.std.specs.Str.Parse.{signed_digits_value, without_leading_sign}
 use Rattle.hex.specs.Hex.{decode_of}
 use Rattle.hex.specs.declared.error.FromHexError.{FromHexError}
+use Rattle.logical_types.specs.Shapes.{shape_of, storage_in}
 use Rattle.csv_records.specs.Rows.{Field, rows_of}
 use Rattle.record_rows.specs.Cells.{column_type, stored_content}
 use Rattle.record_rows.specs.Readings.{Reading, is_null_field}
@@ -20,7 +21,6 @@ use Rattle.vortex_dtype.specs.declared.ptype.PType.{PType}
 use Rattle.vortex_pvalue.specs.Numbers.{in_range}
 use Rattle.vortex_cells.specs.Cells.{Cell}
 use Rattle.vortex_value.specs.Values.Content.{Content, null, string, text, whole}
-use Rattle.record_search.specs.Storages.{storage_in}
 
 -- one digit or more, and nothing else
 abbrev pub is_numeral : List ℕ → Bool
@@ -40,7 +40,7 @@ word_content (kinds.Integer ptype) word = if is_integer_word ptype word then Som
 word_content kinds.Utf8 word = if is_utf8 word then Some (text word) else None
 word_content kinds.Binary word = bytes_content (decode_of word)
 word_content kinds.Bytes word = Some (string word)
-word_content (kinds.Logical logical) word = option_map (stored_content logical) (storage_in logical word)
+word_content (kinds.Logical logical) word = option_map (stored_content logical) (storage_in (shape_of logical) word)
 
 -- the content, or a null in its place where that is asked
 abbrev pub or_null : Bool → Nullability → Option Content → Option Content

@@ -5,5 +5,4 @@ pub mod Laws
 pub mod Named
 pub mod Refused
 pub mod Searched
-pub mod Storages
 pub mod Words

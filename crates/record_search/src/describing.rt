@@ -12,6 +12,7 @@ ghost use Rattle.record_search.specs.Words.{longer_under, nulls_under, row_under
 
 use crate::schema::{Schema, record_fault};
 use csv_records::{Delimiter, cut_record};
+use logical_types::laws::shapes_say_words;
 use record_rows::{ObserveError, observe_record};
 use statistics_bytes::append_statistics;
 use std::alloc::{AllocError, Global};
@@ -153,6 +154,7 @@ fn observe_line(
     ensures refused { IfErr result (IfRecordRefused (TellsRecord (RefusesRecord schema.now) place line.now)) }
     ensures right { IfErr result (IfRecordRefused (λ _. is_refused schema.now line.now ≡ true)) }
 {
+    shapes_say_words();
     match observe_record(alloc, schema, line, buffer, statistics) {
         Ok(Some(notes)) => Ok((true, notes.refused as u64, u64::from(notes.is_longer))),
         Ok(None) => Ok((false, 0, 0)),
