@@ -24,7 +24,7 @@ const ABOUT_COLUMNS: &str =
 /// What the help of a command ends with that searches.
 const ABOUT_FILTERS: &str =
     "Filters compare a column with a literal by = <> != < <= > >=, between .. and .., in (..), like 'abc%', is null, \
-    and join tests by and, or, not and parentheses. Literals are 12, 'text', x'00ff' and null. \
+    and join tests by and, or, not and parentheses. Literals are 12, 10.5, 'text', '2026-03-01', x'00ff' and null. \
     Columns are names, in double quotes where they are no words, or $1, $2 ..; of a file without named columns, line is the whole line.
 
 Without FILE.zones, and with --whole, --columns, --delimiter, --header, --null or --lenient, the file is searched whole.";
