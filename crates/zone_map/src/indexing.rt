@@ -174,9 +174,7 @@ fn finish(
     let (nulls, longer) = add_zones(rt, name, file, &schema, place, &mut loaded)?;
     save(rt, name, loaded.setup.columns.len(), &loaded.index)?;
     if schema.reading.is_lenient() {
-        let _ = eprintln!(rt;
-            "{nulls} fields were taken as nulls; of {longer} records the fields too many were passed over"
-        );
+        let _ = eprintln!(rt; "{nulls} words became nulls; {longer} records had fields too many");
     }
     Ok(())
 }
