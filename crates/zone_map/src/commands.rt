@@ -360,7 +360,7 @@ fn null_arg<'a>(alloc: Global) -> Arg<'a> {
         .value_name("WORD")
         .action(ArgAction::Append)
         .help(
-            "A word that is a null where it has no quotes, as a field without a byte is; more by --null again",
+            "A word that is read as a null, as an empty field is, unless it is in quotes; may be given again",
         )
 }
 
