@@ -10,7 +10,7 @@ use Rattle.std.specs.Str.Pattern.{FindsTextPrefix}
 use Rattle.std.specs.declared.string.String.{String}
 use Rattle.std.proofs.lemmas.Fmt.{decimal_is_IsNumeral}
 use Rattle.std.proofs.lemmas.List.{append_assoc, map-append}
-use Rattle.zone_map.specs.Names.{IsLine, IsName, texts}
+use Rattle.zone_map.specs.Names.{IsLine, texts}
 use Rattle.zone_map.specs.Setups.{AreLines, ColumnValue, FitNumbers, IsSetup, SetupValue, null_lines, numbers_text, setup_lines}
 use Rattle.zone_map.specs.declared.setup.Numbers.{Numbers}
 
@@ -70,8 +70,3 @@ same_setup s numbers nulls columns n w c =
     ap (λ (x : Numbers). let r : SetupValue = record { numbers = x; nulls = nulls; columns = columns } in r) n
     ∙ ap (λ (x : List (List ℕ)). record s { nulls = x; columns = columns }) w
     ∙ ap (λ (x : List ColumnValue). record s { columns = x }) c
-
--- a text with a byte may be a name exactly if it is one line
-pub name_of_line : (text : List ℕ) (b : Bool) → 0 < length text → MatchBool b (IsLine text) (¬ (IsLine text)) → MatchBool b (IsName text) (¬ (IsName text))
-name_of_line text true some line = record { some = some; one_line = line }
-name_of_line text false some other = λ name. other name.one_line
