@@ -1,5 +1,5 @@
 -- The lines of words that are nulls, and what follows them.
-use Rattle.std.proofs.Common.{◌≡◌, ◌≢◌, ◌<◌, ◌^◌, ℕ, Bool, List, [], ◌∷◌, ◌++◌, Option, None, Some, MatchBool, MatchOption, true, false, length, drop, map, subst, arith, ◌∙◌, ap, sym, refl}
+use Rattle.std.proofs.Common.{◌≡◌, ◌≢◌, ◌<◌, ◌^◌, ℕ, List, [], ◌∷◌, ◌++◌, Option, None, Some, MatchOption, length, drop, subst, arith, ◌∙◌, ap, sym, refl}
 use denote.Ref.{Bor}
 use Rattle.std.specs.Char.{digit_value}
 use Rattle.std.specs.Fmt.{decimal}
@@ -11,8 +11,7 @@ use Rattle.std.specs.declared.string.String.{String}
 use Rattle.std.proofs.lemmas.Fmt.{decimal_is_IsNumeral}
 use Rattle.std.proofs.lemmas.List.{append_assoc, map-append}
 use Rattle.zone_map.specs.Names.{IsLine, texts}
-use Rattle.zone_map.specs.Setups.{AreLines, ColumnValue, FitNumbers, IsSetup, SetupValue, null_lines, numbers_text, setup_lines}
-use Rattle.zone_map.specs.declared.setup.Numbers.{Numbers}
+use Rattle.zone_map.specs.Setups.{AreLines, FitNumbers, IsSetup, SetupValue, null_lines, setup_lines}
 
 -- `strip_prefix` at a text
 pub strip_text : (p bs : List ℕ) (r : Option (Bor (List ℕ))) → MatchOption r (FindsTextPrefix p bs None) (λ x. (n : ℕ) × FindsTextPrefix p bs (Some n) × (x.now ≡ drop n bs) × (length x.now + n ≡ length bs)) → MatchOption r ((rest : List ℕ) → bs ≢ p ++ rest) (λ x. bs ≡ p ++ x.now)
@@ -64,9 +63,3 @@ pub one_null_more : (all others more : List (List ℕ)) (null : List ℕ) (old :
 one_null_more all others more null old x are is same =
     are ∙ ap (λ (o : List (List ℕ)). texts old ++ o) (is ∙ ap (λ (y : List ℕ). y ∷ more) (sym same))
     ∙ sym (append_assoc (texts old) (string_bytes x ∷ []) more) ∙ ap (λ (l : List (List ℕ)). l ++ more) (sym (map-append string_bytes old (x ∷ [])))
-
-pub same_setup : (s : SetupValue) (numbers : Numbers) (nulls : List (List ℕ)) (columns : List ColumnValue) → numbers ≡ s.numbers → nulls ≡ s.nulls → columns ≡ s.columns → record { numbers = numbers; nulls = nulls; columns = columns } ≡ s
-same_setup s numbers nulls columns n w c =
-    ap (λ (x : Numbers). let r : SetupValue = record { numbers = x; nulls = nulls; columns = columns } in r) n
-    ∙ ap (λ (x : List (List ℕ)). record s { nulls = x; columns = columns }) w
-    ∙ ap (λ (x : List ColumnValue). record s { columns = x }) c
