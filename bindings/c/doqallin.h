@@ -353,12 +353,12 @@ uint32_t doqallin_filter_outcomes(const uint8_t *filter, size_t filter_length, c
  * they were. Of the others the first of these comes:
  * BAD_BYTES: the filter is no encoding that nests so deep at most, or has such a literal. fault->column is column_count, and
  * fault->place is as above.
+ * BUFFER_TOO_SMALL: exactly if the filter was read, for which memory is asked, and the buffer has fewer bytes than a bit for each
+ * row takes. Here nothing is written.
  * WRONG_LENGTH: exactly if the columns are not as many as the filter's. fault->column is column_count.
  * UNKNOWN_KIND, TOO_MANY_ROWS, TOO_SHORT, BAD_OFFSETS, NOT_UTF8: fault->column cannot be read, for what is at fault->place.
  * UNKNOWN_KIND: fault->column is of another kind than the filter's, and fault->place is 1.
  * WRONG_LENGTH: fault->column has another number of rows than row_count. Of the last three the first column decides.
- * BUFFER_TOO_SMALL: exactly if the filter and the columns were read, for which memory is asked first, and the buffer has fewer
- * bytes than a bit for each row takes. Here nothing is written.
  * NO_MEMORY: memory is asked for the filter, for each column, and for values of more than 22 bytes. The bits may then say
  * anything. */
 uint32_t doqallin_filter_mask(const uint8_t *filter, size_t filter_length, const struct doqallin_column *columns,

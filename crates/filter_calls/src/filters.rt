@@ -107,8 +107,10 @@ fn answer_on(alloc: Global, call: On, given: &FilterInputs) -> FilterResult {
 /// The places of the rows that match.
 fn matching(alloc: Global, given: &FilterInputs) -> FilterResult {
     let mut places = Vec::new(alloc);
-    for (place, row) in given.cells.chunks(given.width.max(1)).enumerate() {
-        if given.filter.matches(row) {
+    let mut rows = given.cells.chunks(given.width.max(1));
+    for place in 0..given.count {
+        // Without columns a row has no cells.
+        if given.filter.matches(rows.next().unwrap_or(&[])) {
             places.push(place)?;
         }
     }
@@ -118,8 +120,9 @@ fn matching(alloc: Global, given: &FilterInputs) -> FilterResult {
 /// The places of the zones that may have a row that matches.
 fn matching_zones(alloc: Global, given: &FilterInputs) -> FilterResult {
     let mut places = Vec::new(alloc);
-    for (place, zone) in given.zones.chunks(given.width.max(1)).enumerate() {
-        if outcomes_of(&given.filter, zone).may_be_true {
+    let mut zones = given.zones.chunks(given.width.max(1));
+    for place in 0..given.count {
+        if outcomes_of(&given.filter, zones.next().unwrap_or(&[])).may_be_true {
             places.push(place)?;
         }
     }

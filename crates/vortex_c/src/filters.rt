@@ -46,11 +46,11 @@ pub(crate) enum ZonesError {
 /// - `BAD_BYTES`: the filter is no encoding that nests so deep at most, or a literal in it is no
 ///   value of its logical type. `fault` has the number of columns, and the first byte that no such
 ///   encoding has there, or where the key of that literal begins.
+/// - `BUFFER_TOO_SMALL`: the buffer has not a bit for each row. `fault` is not written.
 /// - `WRONG_LENGTH`: there are not as many columns as the filter has, and `fault` has their number;
 ///   or a column has another number of rows.
 /// - `UNKNOWN_KIND`: the kind of a column is none, or with place 1 is not the filter's.
 /// - `TOO_MANY_ROWS`, `TOO_SHORT`, `BAD_OFFSETS`, `NOT_UTF8`: a column cannot be read.
-/// - `BUFFER_TOO_SMALL`: the buffer has not a bit for each row. `fault` is not written.
 /// - `NO_MEMORY`: `fault` is not written, and the bits may say anything.
 #[unsafe(no_mangle)]
 pub extern "C" fn doqallin_filter_mask(
