@@ -334,7 +334,8 @@ uint32_t doqallin_prepare_filter(const uint8_t *words, size_t words_length, cons
  * which the filter was prepared, or more.
  * GIVEN: each zone has its byte. Under each other status the outcomes may have any bytes, and the first of these comes:
  * BAD_BYTES: the filter is no encoding that nests so deep at most. fault->column is offsets_length, and fault->place its first
- * byte that no such encoding has there, or its length if it ends too early.
+ * byte that no such encoding has there, or its length if it ends too early. Or a literal in it is no value of its logical type,
+ * as a day past the year 9999: fault->place is where its key begins.
  * WRONG_LENGTH: exactly if there are not as many offsets as pieces, and one more. fault->column is offsets_length.
  * BAD_OFFSETS: an offset of the piece fault->column is below the one before it, or past the end of the statistics.
  * BAD_BYTES: the piece fault->column is no encoding of statistics of its column's kind; fault->place is as above, in the piece. Of
@@ -350,14 +351,14 @@ uint32_t doqallin_filter_outcomes(const uint8_t *filter, size_t filter_length, c
  * others; one that names none is the same on each row.
  * GIVEN: the buffer begins with the bits of the rows. Those after them in their last byte are 0, and the bytes after it are as
  * they were. Of the others the first of these comes:
- * BAD_BYTES: the filter is no encoding that nests so deep at most. fault->column is column_count, and fault->place its first byte
- * that no such encoding has there, or its length if it ends too early.
+ * BAD_BYTES: the filter is no encoding that nests so deep at most, or has such a literal. fault->column is column_count, and
+ * fault->place is as above.
+ * BUFFER_TOO_SMALL: exactly if the filter was read, for which memory is asked, and the buffer has fewer bytes than a bit for each
+ * row takes. Here nothing is written.
  * WRONG_LENGTH: exactly if the columns are not as many as the filter's. fault->column is column_count.
  * UNKNOWN_KIND, TOO_MANY_ROWS, TOO_SHORT, BAD_OFFSETS, NOT_UTF8: fault->column cannot be read, for what is at fault->place.
  * UNKNOWN_KIND: fault->column is of another kind than the filter's, and fault->place is 1.
  * WRONG_LENGTH: fault->column has another number of rows than row_count. Of the last three the first column decides.
- * BUFFER_TOO_SMALL: exactly if the filter and the columns were read, for which memory is asked first, and the buffer has fewer
- * bytes than a bit for each row takes. Here nothing is written.
  * NO_MEMORY: memory is asked for the filter, for each column, and for values of more than 22 bytes. The bits may then say
  * anything. */
 uint32_t doqallin_filter_mask(const uint8_t *filter, size_t filter_length, const struct doqallin_column *columns,

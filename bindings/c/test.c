@@ -555,6 +555,8 @@ static void filter_of_no_columns(void) {
     fresh();
     CHECK(doqallin_filter_mask(form, form_length, no_columns, 0, 3, 1, buffer, 1, &fault) == DOQALLIN_GIVEN && !buffer[0] && is_kept(buffer, 1));
     CHECK(doqallin_filter_mask(form, form_length, no_columns, 0, 3, 0, other, 1, &fault) == DOQALLIN_BAD_BYTES && at_fault(0, 14));
+    // A day past the year 9999 is no value of a date.
+    CHECK(doqallin_filter_mask(BYTES("\2\0\0\0\0\0\0\0\0\7\0\0\0\0\0\0\0\0 \25vortex.date\0\26\4\0\6\17\230\226\200"), no_columns, 0, 3, 0, other, 1, &fault) == DOQALLIN_BAD_BYTES && at_fault(0, 36));
     static const uint64_t starts[] = {0};
     CHECK(doqallin_filter_outcomes(form, form_length, buffer, 0, starts, 1, 0, other, 1, &fault) == DOQALLIN_BAD_BYTES && at_fault(1, 14));
     CHECK(doqallin_filter_outcomes(form, form_length, buffer, 0, starts, 1, 1, buffer, 1, &fault) == DOQALLIN_GIVEN && buffer[0] == 1);

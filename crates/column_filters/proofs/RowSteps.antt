@@ -3,6 +3,7 @@ use Rattle.std.proofs.Common.{◌≡◌, ◌≢◌, ℕ, ◌+◌, ◌<◌, ◌�
 use Rattle.std.specs.Prelude.{Err, IfErr, IsErr, IsErrAnd, Ok, OnOk, Result}
 use Rattle.std.proofs.lemmas.List.{map-append, take_all, take_more}
 use Rattle.std.proofs.lemmas.Option.{slice_get-get_or, same_Some}
+use Rattle.arrow_columns.specs.Bitmaps.{bitmap_length}
 use Rattle.arrow_columns.specs.declared.columns.Column.{Column}
 use Rattle.arrow_columns.specs.declared.tested_rows.Rows.{Rows}
 use Rattle.vortex_dtype.specs.TypeTree.{TypeTree}
@@ -67,21 +68,21 @@ if-err (Err e) P h = h e
 
 -- why there is no mask
 
-pub mask-fault : (columns : List Column) (types : List TypeTree) (count size : ℕ) (e : MaskError) → IsTableError columns types count e → IsMaskError columns types count size e
-mask-fault columns types count size OutOfMemory h = h
-mask-fault columns types count size WrongCount h = h
-mask-fault columns types count size (Unreadable column fault) h = h
-mask-fault columns types count size (TypesDiffer column) h = h
-mask-fault columns types count size (WrongLength column) h = h
-mask-fault columns types count size BufferTooSmall h = absurd h
+pub mask-fault : (columns : List Column) (types : List TypeTree) (count size : ℕ) (e : MaskError) → bitmap_length count ≤ size → IsTableError columns types count e → IsMaskError columns types count size e
+mask-fault columns types count size OutOfMemory room h = (room, h)
+mask-fault columns types count size WrongCount room h = (room, h)
+mask-fault columns types count size (Unreadable column fault) room h = (room, h)
+mask-fault columns types count size (TypesDiffer column) room h = (room, h)
+mask-fault columns types count size (WrongLength column) room h = (room, h)
+mask-fault columns types count size BufferTooSmall room h = absurd h
 
-pub mask-refused : (columns : List Column) (types : List TypeTree) (count size : ℕ) (r : Result Unit MaskError) (e : MaskError) → IsErr r × IsErrAnd r (λ f. f ≡ e) → IsTableError columns types count e → IfErr r (IsMaskError columns types count size)
-mask-refused columns types count size (Ok u) e h k = tt
-mask-refused columns types count size (Err f) e h k = subst (IsMaskError columns types count size) (sym h.1) (mask-fault columns types count size e k)
+pub mask-refused : (columns : List Column) (types : List TypeTree) (count size : ℕ) (r : Result Unit MaskError) (e : MaskError) → IsErr r × IsErrAnd r (λ f. f ≡ e) → bitmap_length count ≤ size → IsTableError columns types count e → IfErr r (IsMaskError columns types count size)
+mask-refused columns types count size (Ok u) e h room k = tt
+mask-refused columns types count size (Err f) e h room k = subst (IsMaskError columns types count size) (sym h.1) (mask-fault columns types count size e room k)
 
-pub memory-refused : (columns : List Column) (types : List TypeTree) (count size : ℕ) (r : Result Unit MaskError) → AreColumnsOf columns types count → IfErr r (λ e. e ≡ OutOfMemory) → IfErr r (IsMaskError columns types count size)
-memory-refused columns types count size (Ok u) are h = tt
-memory-refused columns types count size (Err e) are h = subst (IsMaskError columns types count size) (sym h) are.counts
+pub memory-refused : (columns : List Column) (types : List TypeTree) (count size : ℕ) (r : Result Unit MaskError) → bitmap_length count ≤ size → AreColumnsOf columns types count → IfErr r (λ e. e ≡ OutOfMemory) → IfErr r (IsMaskError columns types count size)
+memory-refused columns types count size (Ok u) room are h = tt
+memory-refused columns types count size (Err e) room are h = subst (IsMaskError columns types count size) (sym h) (room, are.counts)
 
 pub memory-kept : (r : Result Unit MaskError) (P : Type 0) → IfErr r (λ e. e ≡ OutOfMemory) → IfErr r (λ e. e ≢ OutOfMemory → P)
 memory-kept (Ok u) P h = tt

@@ -91,7 +91,7 @@ IsTableError columns types count BufferTooSmall = ⊥
 IsTableError columns types count fault =
     (length columns ≡ length types) × HasFirstError (IsSoundAt types count) (λ k column. IsErrorAt k column (slice_index_or types k null_type) count fault) columns
 
--- why there is no mask of so many bytes: for such a reason, or it is too short for the rows
+-- why there is no mask of so many bytes: it is too short for the rows, or else for such a reason
 abbrev pub IsMaskError : List Column → List TypeTree → ℕ → ℕ → MaskError → Type 0
-IsMaskError columns types count size BufferTooSmall = AreColumnsOf columns types count × (size < bitmap_length count)
-IsMaskError columns types count size fault = IsTableError columns types count fault
+IsMaskError columns types count size BufferTooSmall = size < bitmap_length count
+IsMaskError columns types count size fault = (bitmap_length count ≤ size) × IsTableError columns types count fault

@@ -20,9 +20,9 @@ use vortex_value::Scalar;
 /// significant one on. The bits after the last row are 0, and the bytes after them stay. Without
 /// columns the filter is the same on each row.
 ///
-/// It is refused as by `read_columns`, and with `BufferTooSmall` exactly if the columns were read,
-/// for which memory is asked first, and the mask has fewer bytes than `bitmap_length` of the rows.
-/// After `OutOfMemory` the bits may say anything, and after another refusal they stay.
+/// It is refused with `BufferTooSmall` exactly if the mask has fewer bytes than `bitmap_length` of the
+/// rows, before all else, and then as by `read_columns`. After `OutOfMemory` the bits may say
+/// anything, and after another refusal they stay.
 pub fn mask_of_columns(
     alloc: Global,
     filter: &Filter,
@@ -40,10 +40,10 @@ pub fn mask_of_columns(
     ensures rest { drop (bitmap_length count) mask.new ≡ drop (bitmap_length count) mask.old }
     ensures kept { IfErr result (λ e. e ≢ OutOfMemory → mask.new ≡ mask.old) }
 {
-    let rows = read_columns(alloc, columns, types, count)?;
     if mask.len() < bitmap_length(count) {
         return Err(MaskError::BufferTooSmall);
     }
+    let rows = read_columns(alloc, columns, types, count)?;
     write_mask(alloc, filter, &rows, count, mask)
 }
 

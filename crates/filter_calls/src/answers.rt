@@ -1,6 +1,7 @@
 //! What calls of filters answer, and how it is written.
 
-use case_lines::{Output, WriteAnswer, truth_word, write_count, write_places};
+use case_lines::{Output, WriteAnswer, truth_word, write_bytes, write_count, write_places};
+use filter_encoding::FilterEncodingError;
 use filter_pruning::Outcomes;
 use filter_sql::{Expected, ParseError};
 use vortex_filter::{FilterError, Truth};
@@ -21,6 +22,9 @@ pub enum FilterAnswer {
     Fits,
     Refused(FilterError),
     TextRefused(ParseError),
+    /// A filter in bytes.
+    Bytes(Vec<u8>),
+    EncodingRefused(FilterEncodingError),
 }
 
 impl WriteAnswer for FilterAnswer {
@@ -34,6 +38,8 @@ impl WriteAnswer for FilterAnswer {
             FilterAnswer::Fits => out.word("ok"),
             FilterAnswer::Refused(refusal) => write_refusal(out, *refusal),
             FilterAnswer::TextRefused(refusal) => write_text_refusal(out, *refusal),
+            FilterAnswer::Bytes(bytes) => write_bytes(out, bytes),
+            FilterAnswer::EncodingRefused(refusal) => write_encoding_refusal(out, *refusal),
         }
     }
 }
@@ -82,6 +88,18 @@ fn write_text_refusal(out: &mut Output, refusal: ParseError) {
         out.char(' ');
         out.word(expected_name(expected));
     }
+}
+
+/// Writes the name of a refusal of a filter in bytes, and its place.
+fn write_encoding_refusal(out: &mut Output, refusal: FilterEncodingError) {
+    let (name, offset) = match refusal {
+        FilterEncodingError::OutOfMemory => return out.word("OutOfMemory"),
+        FilterEncodingError::NoEncoding => return out.word("NoEncoding"),
+        FilterEncodingError::BadBytes { offset } => ("BadBytes", offset),
+        FilterEncodingError::NotAValue { offset } => ("NotAValue", offset),
+    };
+    out.word(name);
+    write_count(out, offset);
 }
 
 fn text_refusal_name(refusal: ParseError) -> &'static str {

@@ -48,6 +48,8 @@ pub struct FilterInputs {
     pub zones: Vec<ColumnStatistics>,
     /// How many columns a row or a zone has.
     pub width: usize,
+    /// How many rows or zones there are, if they may be several.
+    pub count: usize,
     /// The types of columns.
     pub dtypes: Vec<DType>,
     pub text: String,
@@ -67,6 +69,7 @@ impl Inputs for FilterInputs {
             cells: Vec::new(alloc),
             zones: Vec::new(alloc),
             width: 0,
+            count: 0,
             dtypes: Vec::new(alloc),
             text: String::new(alloc),
             columns: Vec::new(alloc),
@@ -89,11 +92,21 @@ impl Inputs for FilterInputs {
                 put(&mut self.filter, filter);
             }
             Input::OnRows => {
-                let filter = read_filter_on_many(tokens, &mut self.width, &mut self.cells);
+                let filter = read_filter_on_many(
+                    tokens,
+                    &mut self.width,
+                    &mut self.count,
+                    &mut self.cells,
+                );
                 put(&mut self.filter, filter);
             }
             Input::OnZones => {
-                let filter = read_filter_on_many(tokens, &mut self.width, &mut self.zones);
+                let filter = read_filter_on_many(
+                    tokens,
+                    &mut self.width,
+                    &mut self.count,
+                    &mut self.zones,
+                );
                 put(&mut self.filter, filter);
             }
             Input::ForTypes => {
@@ -164,6 +177,7 @@ fn read_filter_on<T: InColumn>(tokens: &mut Tokens<'_>, items: &mut Vec<T>) -> F
 fn read_filter_on_many<T: InColumn>(
     tokens: &mut Tokens<'_>,
     width: &mut usize,
+    count: &mut usize,
     items: &mut Vec<T>,
 ) -> Filter {
     let text = tokens.sql();
@@ -171,6 +185,7 @@ fn read_filter_on_many<T: InColumn>(
     *width = columns.len();
     tokens.expect(b';');
     for before in 0..=tokens.left() {
+        *count = before;
         if !tokens.has_more(before) {
             break;
         }

@@ -2,6 +2,7 @@
 
 use crate::answers::FilterAnswer;
 use crate::filter_inputs::{FilterInputs, Input};
+use crate::prepared::{prepare, read_prepared};
 use case_lines::{Line, Named, put, take_scalar};
 use filter_pruning::{may_match, must_match, outcomes_of, simplify};
 use filter_sql::{Column, ParseError, Sql, parse_within};
@@ -36,6 +37,8 @@ const ON: [Named<On, Input>; 7] = [
 #[derive(Clone, Copy)]
 enum Call {
     Parse,
+    Prepare,
+    ReadPrepared,
     Simplify,
     Check,
     Coerce,
@@ -45,8 +48,10 @@ enum Call {
     Not,
 }
 
-const CALLS: [Named<Call, Input>; 8] = [
+const CALLS: [Named<Call, Input>; 10] = [
     ("parse", Call::Parse, &[Input::Text]),
+    ("prepare", Call::Prepare, &[Input::Text]),
+    ("read_prepared", Call::ReadPrepared, &[Input::Literal]),
     ("simplify", Call::Simplify, &[Input::OnZone]),
     ("check", Call::Check, &[Input::ForTypes]),
     ("coerce", Call::Coerce, &[Input::ForTypes]),
@@ -84,7 +89,7 @@ pub fn answer(line: &mut Line<'_>) {
 }
 
 /// An answer, or the refusal that all calls have.
-type FilterResult = Result<FilterAnswer, VortexError>;
+pub(crate) type FilterResult = Result<FilterAnswer, VortexError>;
 
 fn answer_on(alloc: Global, call: On, given: &FilterInputs) -> FilterResult {
     let filter = &given.filter;
@@ -102,8 +107,10 @@ fn answer_on(alloc: Global, call: On, given: &FilterInputs) -> FilterResult {
 /// The places of the rows that match.
 fn matching(alloc: Global, given: &FilterInputs) -> FilterResult {
     let mut places = Vec::new(alloc);
-    for (place, row) in given.cells.chunks(given.width.max(1)).enumerate() {
-        if given.filter.matches(row) {
+    let mut rows = given.cells.chunks(given.width.max(1));
+    for place in 0..given.count {
+        // Without columns a row has no cells.
+        if given.filter.matches(rows.next().unwrap_or(&[])) {
             places.push(place)?;
         }
     }
@@ -113,8 +120,9 @@ fn matching(alloc: Global, given: &FilterInputs) -> FilterResult {
 /// The places of the zones that may have a row that matches.
 fn matching_zones(alloc: Global, given: &FilterInputs) -> FilterResult {
     let mut places = Vec::new(alloc);
-    for (place, zone) in given.zones.chunks(given.width.max(1)).enumerate() {
-        if outcomes_of(&given.filter, zone).may_be_true {
+    let mut zones = given.zones.chunks(given.width.max(1));
+    for place in 0..given.count {
+        if outcomes_of(&given.filter, zones.next().unwrap_or(&[])).may_be_true {
             places.push(place)?;
         }
     }
@@ -125,6 +133,8 @@ fn answer_of(alloc: Global, call: Call, given: &FilterInputs) -> FilterResult {
     let filter = &given.filter;
     let made = match call {
         Call::Parse => return parse(alloc, given),
+        Call::Prepare => return prepare(alloc, given),
+        Call::ReadPrepared => return read_prepared(alloc, given),
         Call::Check => return fits(filter.check(&given.dtypes)),
         Call::Simplify => simplify(alloc, filter, &given.zones),
         Call::Coerce => filter.coerce(alloc, &given.dtypes),
@@ -162,7 +172,7 @@ fn refused(refusal: FilterError) -> FilterResult {
 }
 
 /// A filter as SQL text, with the names of its columns.
-fn sql_answer(alloc: Global, filter: &Filter, columns: &[Column]) -> FilterResult {
+pub(crate) fn sql_answer(alloc: Global, filter: &Filter, columns: &[Column]) -> FilterResult {
     match Sql::of(alloc, filter, columns) {
         Ok(sql) => shown_answer(alloc, &sql),
         Err(_) => Err(VortexError::OutOfMemory),

@@ -6,6 +6,7 @@
 mod answers;
 mod filter_inputs;
 mod filters;
+mod prepared;
 mod same;
 
 use case_lines::Line;

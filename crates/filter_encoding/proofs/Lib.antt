@@ -1,4 +1,5 @@
 pub mod EncodingLaws
+pub mod ExtensionLaws
 pub mod HeadLaws
 pub mod ListLaws
 pub mod LiteralLaws
@@ -8,4 +9,5 @@ pub mod ReadSteps
 pub mod ReadableLaws
 pub mod Stuck
 pub mod TypeLaws
+pub mod ValueLaws
 pub mod WriteSteps

@@ -1,7 +1,7 @@
 -- Literals: what begins with two of them, and where the key of one does not go on.
 use Rattle.std.proofs.Common.{◌≡◌, ◌⊎◌, inl, inr, ℕ, zero, suc, ◌<◌, ◌≤◌, List, [], ◌∷◌, ◌++◌, length, length-append, take, drop, refl, sym, subst, ap, ap₂, ◌∙◌, append_assoc, append-nil, arith}
 use Rattle.std.specs.Prelude.{Err, IfOk, Ok, Result}
-use Rattle.vortex_dtype.specs.TypeTree.{TypeTree, null_type, bool_type, integer_type, utf8_type, binary_type}
+use Rattle.vortex_dtype.specs.TypeTree.{TypeTree, null_type, bool_type, integer_type, utf8_type, binary_type, extension_type}
 use Rattle.vortex_value.specs.Equality.{HasNoTyped}
 use Rattle.vortex_value.specs.Validity.{Valid}
 use Rattle.vortex_value.specs.Values.Content.{Content, content}
@@ -21,7 +21,7 @@ use Rattle.vortex_row.proofs.PartSteps.{some_value}
 use Rattle.vortex_cells.specs.Cells.{Cell, cell_of}
 use Rattle.statistics_bytes.specs.EncodingSteps.{ascending}
 use Rattle.statistics_bytes.proofs.KeyBounds.{key-ascending}
-use Rattle.filter_encoding.specs.Encoding.{IsLiteral, IsPlain, literal_bytes, type_byte, type_bytes}
+use Rattle.filter_encoding.specs.Encoding.{HasByte, IsLiteral, IsPlain, literal_bytes, type_bytes}
 use Rattle.filter_encoding.specs.Steps.{IsKeyOfType, ReadsKey}
 use Rattle.filter_encoding.specs.Strings.{BeginAlike, HasRead, IsEncodingOf, IsStuck, Reads}
 use Rattle.filter_encoding.specs.declared.reader.FilterDecodeError.{FilterDecodeError}
@@ -44,7 +44,7 @@ literal_untyped x h = subst HasNoTyped (sym h.is) (values_have_no_typed x.typed 
 pub literals_apart : AreApart literal_bytes IsLiteral
 literals_apart = record {
   apart = λ x y xs ys h g e.
-      let w = types_apart.apart x.typed y.typed (key x.content ++ xs) (key y.content ++ ys) h.plain g.plain e in
+      let w = types_apart.apart x.typed y.typed (key x.content ++ xs) (key y.content ++ ys) h.plain g.plain (sym (append_assoc (type_bytes x.typed) (key x.content) xs) ∙ e ∙ append_assoc (type_bytes y.typed) (key y.content) ys) in
       let v = key-apart x.content y.content xs ys (literal_untyped x h) (literal_held x h) (literal_held y g) w.1 in
       (same_cell x y w.0 v.0, v.1);
 }
@@ -60,11 +60,11 @@ key_goes_on t plain = record {
   join = λ q h. record {
     value = record { typed = t; content = content h.value };
     is_one = record { plain = plain; value = h.value; is_value = h.is_value; is = refl };
-    is = ap (λ bs. type_byte t ∷ bs) h.is;
+    is = ap (λ bs. type_bytes t ++ bs) h.is;
   };
   split = λ s zs rest h e.
       let x = h.value in
-      let w = types_apart.apart t x.typed zs (key x.content ++ rest) plain h.is_one.plain (e ∙ ap (λ bs. bs ++ rest) h.is) in (
+      let w = types_apart.apart t x.typed zs (key x.content ++ rest) plain h.is_one.plain (e ∙ ap (λ bs. bs ++ rest) h.is ∙ append_assoc (type_bytes x.typed) (key x.content) rest) in (
         key x.content,
         record { value = h.is_one.value; is_value = subst (λ u. IsValueOf u h.is_one.value) (sym w.0) h.is_one.is_value; is = ap key h.is_one.is },
         w.1,
@@ -83,11 +83,20 @@ literal_read t x c old mid now typed same h is_type value is = record {
     is_value = subst (λ u. IsValueOf u (scalar_raw x)) (sym (typed ∙ is_type)) value;
     is = same;
   };
-  is = h.is ∙ ap (λ bs. type_bytes t ++ bs) is ∙ ap₂ (λ u k. type_byte u ∷ (key k ++ now)) (sym (typed ∙ is_type)) (sym same);
+  is = h.is ∙ ap (λ bs. type_bytes t ++ bs) is ∙ sym (append_assoc (type_bytes t) (key (scalar_content x)) now) ∙ ap₂ (λ u k. (type_bytes u ++ key k) ++ now) (sym (typed ∙ is_type)) (sym same);
 }
 
 -- the type of a literal is stuck
+byte_values : (t : TypeTree) → HasByte t → HasValues t
+byte_values null_type h = tt
+byte_values (integer_type k n) h = tt
+byte_values (bool_type n) h = tt
+byte_values (utf8_type n) h = tt
+byte_values (binary_type n) h = tt
+byte_values _ h = absurd h
+
 has_values : (t : TypeTree) → IsPlain t → HasValues t
+has_values (extension_type id metadata u) h = byte_values u h.stored
 has_values null_type h = tt
 has_values (integer_type k n) h = tt
 has_values (bool_type n) h = tt

@@ -12,7 +12,7 @@ use Rattle.vortex_filter.specs.declared.filter.Filter.TheViews.{roll-Filter}
 use Rattle.vortex_filter.specs.FilterLiterals.{AreValid, literals_of, literals_step}
 use Rattle.vortex_filter.specs.Formula.{Formula, constant, comparison, null_test, membership, range, prefix_test, both, either, negation, formula, formula_step}
 use Rattle.vortex_filter.proofs.LiteralSteps.{valid_left, valid_right}
-use Rattle.filter_encoding.specs.Encoding.{CanBeWritten, HasEncoding, IsHeldCell, IsLiteral, IsPlainCell, IsWritten, Nests, Prepared, parts_of}
+use Rattle.filter_encoding.specs.Encoding.{CanBeWritten, HasEncoding, HasValues, IsHeldCell, IsLiteral, IsLogicallyValid, IsPlainCell, IsWritten, Nests, Prepared, parts_of}
 
 -- ---- what holds of each literal
 
@@ -37,7 +37,7 @@ module _ (P Q : Cell → Type 0) (to : (x : Cell) → P x → Q x) where
 
 -- what was written could be
 pub could_be_written : (n : ℕ) (p : Prepared) → IsWritten n p → CanBeWritten n p
-could_be_written n p h = record { types = h.types; filter = nests_too IsHeldCell IsPlainCell (λ x w. record { plain = w.plain; untyped = w.untyped }) n p.filter h.filter }
+could_be_written n p h = record { types = h.types; filter = nests_too IsHeldCell IsPlainCell (λ x w. record { plain = w.plain; untyped = w.untyped; logical = w.logical }) n p.filter h.filter }
 
 -- ---- valid literals
 
@@ -85,6 +85,24 @@ module _ (S : Type 0) (part : S → Filter) (are : (s : S) → CanBeRead (part s
 readable : (f : Filter) → CanBeRead f
 readable = ind-Filter CanBeRead (λ x y is. subst (λ z. CanBeRead (roll-Filter z)) is (by_layer _ (λ e. e.0) (λ e. e.1) y))
 
+each_value : (xs : List Cell) → AllByRecursion IsHeldCell xs → AllByRecursion IsLogicallyValid xs
+each_value [] h = tt
+each_value (x ∷ xs) h = (h.0.logical, each_value xs h.1)
+
+values_of : (n : ℕ) (f : Formula) → Nests IsHeldCell n f → HasValues f
+values_of n (constant t) h = tt
+values_of n (comparison k op x) h = h.1.logical
+values_of n (null_test k) h = tt
+values_of n (membership k xs) h = each_value xs h.1.each
+values_of n (range k x y) h = (h.1.0.logical, h.1.1.logical)
+values_of n (prefix_test k x) h = h.1.logical
+values_of zero (both f g) h = absurd h
+values_of (suc n) (both f g) h = (values_of n f h.0, values_of n g h.1)
+values_of zero (either f g) h = absurd h
+values_of (suc n) (either f g) h = (values_of n f h.0, values_of n g h.1)
+values_of zero (negation f) h = absurd h
+values_of (suc n) (negation f) h = values_of n f h
+
 -- what was written with valid literals can be read
 pub can_be_read : (n : ℕ) (columns : List DType) (f : Filter) → IsWritten n (parts_of columns f) → AreValid (literals_of f) → HasEncoding n (parts_of columns f)
-can_be_read n columns f h v = record { types = h.types; filter = readable f n v h.filter }
+can_be_read n columns f h v = record { formed = record { types = h.types; filter = readable f n v h.filter }; values = values_of n (formula f) h.filter }

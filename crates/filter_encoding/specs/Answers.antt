@@ -1,15 +1,23 @@
 -- What reading an encoding answers: the prepared filter that was written, or the first byte that no encoding has there.
 use Rattle.std.specs.Prelude.{◌≡◌, ℕ, suc, ◌<◌, ◌≤◌, List, length, take, Result, MatchResult}
 use Rattle.statistics_bytes.specs.EncodingAnswers.{MayGoOn}
-use Rattle.filter_encoding.specs.Encoding.{HasEncoding, Prepared, encoding, prepared}
-use Rattle.filter_encoding.specs.Strings.{IsEncodingOf}
+use Rattle.filter_encoding.specs.Encoding.{HasValues, IsFormed, IsVersion, Prepared, encoding_in, prepared}
 use Rattle.filter_encoding.specs.declared.error.FilterEncodingError.{FilterEncodingError}
 use Rattle.filter_encoding.specs.declared.error.FilterEncodingError.TheVariants.{OutOfMemory}
 use Rattle.filter_encoding.specs.declared.prepared.PreparedFilter.{PreparedFilter}
 
--- the encoding of a prepared filter in which at most n connectives nest
-abbrev pub IsEncoding : ℕ → List ℕ → Type 0
-IsEncoding n = IsEncodingOf encoding (HasEncoding n)
+-- the encoding of a prepared filter, in a version, in which at most n connectives nest
+pub record IsEncoding (n : ℕ) (bs : List ℕ) : Type 0 where
+  pub version : ℕ
+  pub value : Prepared
+  pub is_version : IsVersion version
+  pub is_one : IsFormed n value
+  pub is : bs ≡ encoding_in version value
+
+-- the bytes are the encoding of a prepared filter with a literal that is no value of its logical type
+pub record HasNoValue (n : ℕ) (bs : List ℕ) : Type 0 where
+  pub encoded : IsEncoding n bs
+  pub none : ¬ (HasValues encoded.value.filter)
 
 -- The bytes are none of the strings, and this is the offset of the first byte that none has: those before begin one,
 -- and with it they begin none. If the bytes end too early, it is the offset after them.

@@ -1,25 +1,30 @@
--- The encoding of a prepared filter in bytes: of the types of its columns, and of the filter. This is version 1 of the layout.
-use Rattle.std.specs.Prelude.{◌≡◌, ℕ, zero, suc, ◌+◌, List, [], ◌∷◌, ◌++◌, map}
+-- The encoding of a prepared filter in bytes: of the types of its columns, and of the filter. These are versions 1 and 2 of the
+-- layout, which differ by their first byte alone.
+use Rattle.std.specs.Prelude.{◌≡◌, ◌⊎◌, ◌||◌, ℕ, ℤ, zero, suc, ◌+◌, Bool, true, false, List, [], ◌∷◌, ◌++◌, map, if◌then◌else◌}
+use Rattle.std.specs.List.{AllByRecursion, list_any}
 use Rattle.vortex_dtype.specs.TypeOf.{type_of}
-use Rattle.vortex_dtype.specs.TypeTree.{TypeTree, null_type, bool_type, integer_type, utf8_type, binary_type}
+use Rattle.vortex_dtype.specs.TypeTree.{TypeTree, null_type, bool_type, integer_type, utf8_type, binary_type, extension_type}
 use Rattle.vortex_dtype.specs.declared.nullability.Nullability.{Nullability}
 use Rattle.vortex_dtype.specs.declared.nullability.Nullability.TheVariants.{NonNullable, Nullable}
 use Rattle.vortex_dtype.specs.declared.ptype.PType.{PType}
 use Rattle.vortex_dtype.specs.declared.ptype.PType.TheVariants.{U8, U16, U32, U64, I8, I16, I32, I64}
 use Rattle.vortex_dtype.specs.declared.types.DType.{DType}
 use Rattle.vortex_value.specs.Equality.{HasNoTyped}
-use Rattle.vortex_value.specs.Values.Content.{content}
+use Rattle.vortex_value.specs.Values.Content.{content, null, text, string}
 use Rattle.vortex_value.specs.Values.RawTree.{RawTree}
 use Rattle.vortex_row.specs.Decoded.{IsValueOf}
 use Rattle.vortex_row.specs.Held.{IsHeld}
 use Rattle.vortex_row.specs.Keys.{key}
 use Rattle.vortex_cells.specs.Cells.{Cell}
 use Rattle.vortex_filter.specs.Formula.{Formula, formula, constant, comparison, null_test, membership, range, prefix_test, both, either, negation}
+use Rattle.vortex_filter.specs.LogicalValues.{IsLogicalValue}
 use Rattle.vortex_filter.specs.declared.filter.Filter.{Filter}
 use Rattle.vortex_filter.specs.declared.operator.CompareOperator.{CompareOperator}
 use Rattle.vortex_filter.specs.declared.operator.CompareOperator.TheVariants.{Eq, NotEq, Gt, Gte, Lt, Lte}
 use Rattle.vortex_filter.specs.declared.truth.Truth.{Truth}
 use Rattle.vortex_filter.specs.declared.truth.Truth.TheVariants.{False, Unknown, True}
+use Rattle.logical_scalars.specs.Stored.{IsOfLogicalType}
+use Rattle.logical_types.specs.declared.logical.LogicalType.{LogicalType}
 use Rattle.filter_encoding.specs.Lists.{AreListed, Fits, count_bytes, listed}
 use Rattle.filter_encoding.specs.declared.prepared.PreparedFilter.{PreparedFilter}
 
@@ -41,14 +46,25 @@ abbrev pub null_code : Nullability → ℕ
 null_code NonNullable = 0
 null_code Nullable = 16
 
--- a type of Arrow's columns: integers, bool, strings, bytes or nulls
+-- a type that has a byte: integers, bool, strings, bytes or nulls
+abbrev pub HasByte : TypeTree → Type 0
+HasByte null_type = Unit {0}
+HasByte (bool_type n) = Unit {0}
+HasByte (integer_type k n) = Unit {0}
+HasByte (utf8_type n) = Unit {0}
+HasByte (binary_type n) = Unit {0}
+HasByte _ = ⊥
+
+-- an extension over such a type, whose id and metadata memory can hold
+pub record IsPlainExtension (id metadata : List ℕ) (storage : TypeTree) : Type 0 where
+  pub id_held : IsHeld (text id)
+  pub metadata_held : IsHeld (string metadata)
+  pub stored : HasByte storage
+
+-- a type that has a byte, or an extension over one
 abbrev pub IsPlain : TypeTree → Type 0
-IsPlain null_type = Unit {0}
-IsPlain (bool_type n) = Unit {0}
-IsPlain (integer_type k n) = Unit {0}
-IsPlain (utf8_type n) = Unit {0}
-IsPlain (binary_type n) = Unit {0}
-IsPlain _ = ⊥
+IsPlain (extension_type id metadata storage) = IsPlainExtension id metadata storage
+IsPlain t = HasByte t
 
 -- the byte of such a type
 abbrev pub type_byte : TypeTree → ℕ
@@ -60,24 +76,38 @@ type_byte null_type = 29
 type_byte _ = 255
 
 -- the same, as a string of one byte
+abbrev pub byte_string : TypeTree → List ℕ
+byte_string t = type_byte t ∷ []
+
+-- of an extension: its byte, the keys of its id and of its metadata, and the byte of what stores it
+abbrev pub extension_bytes : List ℕ → List ℕ → TypeTree → List ℕ
+extension_bytes id metadata storage = 32 ∷ (key (text id) ++ (key (string metadata) ++ byte_string storage))
+
 abbrev pub type_bytes : TypeTree → List ℕ
-type_bytes t = type_byte t ∷ []
+type_bytes (extension_type id metadata storage) = extension_bytes id metadata storage
+type_bytes t = byte_string t
 
 -- ---- literals
 
--- a literal: the byte of its type, and the key of its content
+-- a literal: the bytes of its type, and the key of its content
 abbrev pub literal_bytes : Cell → List ℕ
-literal_bytes x = type_byte x.typed ∷ key x.content
+literal_bytes x = type_bytes x.typed ++ key x.content
 
--- a literal of such a type, in which no variant's child stands
+-- a literal of a logical type is null, or a value of it
+abbrev pub IsLogicallyValid : Cell → Type 0
+IsLogicallyValid x = (l : LogicalType) → IsOfLogicalType x.typed l → (x.content ≡ null) ⊎ ((m : LogicalType) × (z : ℤ) × IsLogicalValue m z x)
+
+-- a literal of a type that has bytes, in which no variant's child stands; one of a logical type is null or a value of it
 pub record IsPlainCell (x : Cell) : Type 0 where
   pub plain : IsPlain x.typed
   pub untyped : HasNoTyped x.content
+  pub logical : IsLogicallyValid x
 
 -- the same, and memory can hold its content
 pub record IsHeldCell (x : Cell) : Type 0 where
   pub plain : IsPlain x.typed
   pub untyped : HasNoTyped x.content
+  pub logical : IsLogicallyValid x
   pub held : IsHeld x.content
 
 -- a literal of such a type, and a value of it
@@ -145,9 +175,43 @@ parts_of columns filter = record { types = map type_of columns; filter = formula
 abbrev pub prepared : PreparedFilter → Prepared
 prepared p = parts_of p.columns.items p.filter
 
--- the version, the types and the filter
+-- ---- versions
+
+abbrev pub is_extension : TypeTree → Bool
+is_extension (extension_type id metadata storage) = true
+is_extension _ = false
+
+abbrev pub is_extended : Cell → Bool
+is_extended x = is_extension x.typed
+
+-- whether a literal is of an extension
+abbrev pub has_extended : Formula → Bool
+has_extended (constant t) = false
+has_extended (comparison k op x) = is_extended x
+has_extended (null_test k) = false
+has_extended (membership k xs) = list_any is_extended xs
+has_extended (range k x y) = is_extended x || is_extended y
+has_extended (prefix_test k x) = is_extended x
+has_extended (both f g) = has_extended f || has_extended g
+has_extended (either f g) = has_extended f || has_extended g
+has_extended (negation f) = has_extended f
+
+-- the version that is written: 2 if a column or a literal is of an extension, and 1 if none is
+abbrev pub version_of : Prepared → ℕ
+version_of p = if list_any is_extension p.types || has_extended p.filter then 2 else 1
+
+abbrev pub IsVersion : ℕ → Type 0
+IsVersion version = (version ≡ 1) ⊎ (version ≡ 2)
+
+-- a version, the types and the filter
+abbrev pub encoding_in : ℕ → Prepared → List ℕ
+encoding_in version p = version ∷ (listed type_bytes p.types ++ node_bytes p.filter)
+
+-- what is written
 abbrev pub encoding : Prepared → List ℕ
-encoding p = 1 ∷ (listed type_bytes p.types ++ node_bytes p.filter)
+encoding p = encoding_in (version_of p) p
+
+-- ---- which are written and read
 
 -- the columns and the literals are of types that have bytes, and at most n connectives nest
 pub record CanBeWritten (n : ℕ) (p : Prepared) : Type 0 where
@@ -159,11 +223,32 @@ pub record IsWritten (n : ℕ) (p : Prepared) : Type 0 where
   pub types : AreListed IsPlain p.types
   pub filter : Nests IsHeldCell n p.filter
 
--- the same, and each literal is a value of its type
-pub record HasEncoding (n : ℕ) (p : Prepared) : Type 0 where
+-- the same, and each literal is a value of its type, though perhaps none of its logical type
+pub record IsFormed (n : ℕ) (p : Prepared) : Type 0 where
   pub types : AreListed IsPlain p.types
   pub filter : Nests IsLiteral n p.filter
 
--- What begins with the encodings of two prepared filters has the same types, the same formula, and one rest.
+-- P holds of each literal
+abbrev pub OfEach : (Cell → Type 0) → Formula → Type 0
+OfEach P (constant t) = Unit {0}
+OfEach P (comparison k op x) = P x
+OfEach P (null_test k) = Unit {0}
+OfEach P (membership k xs) = AllByRecursion P xs
+OfEach P (range k x y) = P x × P y
+OfEach P (prefix_test k x) = P x
+OfEach P (both f g) = OfEach P f × OfEach P g
+OfEach P (either f g) = OfEach P f × OfEach P g
+OfEach P (negation f) = OfEach P f
+
+-- each literal of a logical type is a value of it
+abbrev pub HasValues : Formula → Type 0
+HasValues = OfEach IsLogicallyValid
+
+-- the same, and each literal of a logical type is a value of it
+pub record HasEncoding (n : ℕ) (p : Prepared) : Type 0 where
+  pub formed : IsFormed n p
+  pub values : HasValues p.filter
+
+-- What begins with the encodings of two prepared filters has one version, the same types, the same formula, and one rest.
 abbrev pub EncodingsAreApart : Type 0
-EncodingsAreApart = (m n : ℕ) (p q : Prepared) (xs ys : List ℕ) → HasEncoding m p → HasEncoding n q → encoding p ++ xs ≡ encoding q ++ ys → (p ≡ q) × (xs ≡ ys)
+EncodingsAreApart = (m n v w : ℕ) (p q : Prepared) (xs ys : List ℕ) → IsFormed m p → IsFormed n q → encoding_in v p ++ xs ≡ encoding_in w q ++ ys → (v ≡ w) × (p ≡ q) × (xs ≡ ys)

@@ -1,6 +1,6 @@
 -- Worked cases of the encoding, each a theorem.
-use Rattle.std.specs.Prelude.{◌≡◌, ℕ, pos, negsuc, [], ◌∷◌, ◌++◌, None, refl}
-use Rattle.vortex_dtype.specs.TypeTree.{bool_type, integer_type, null_type, utf8_type}
+use Rattle.std.specs.Prelude.{◌≡◌, codes, ℕ, pos, negsuc, [], ◌∷◌, ◌++◌, None, refl}
+use Rattle.vortex_dtype.specs.TypeTree.{TypeTree, bool_type, extension_type, integer_type, null_type, utf8_type}
 use Rattle.vortex_dtype.specs.declared.nullability.Nullability.TheVariants.{NonNullable, Nullable}
 use Rattle.vortex_dtype.specs.declared.ptype.PType.TheVariants.{I8, I32, U8}
 use Rattle.vortex_value.specs.Values.Content.{null, text, whole}
@@ -8,7 +8,7 @@ use Rattle.vortex_cells.specs.Cells.{Cell}
 use Rattle.vortex_filter.specs.declared.operator.CompareOperator.TheVariants.{Gte}
 use Rattle.vortex_filter.specs.declared.truth.Truth.TheVariants.{True}
 use Rattle.vortex_filter.specs.Formula.{both, comparison, constant, membership, negation, null_test, prefix_test}
-use Rattle.filter_encoding.specs.Encoding.{Prepared, encoding, literal_bytes, node_bytes, type_byte}
+use Rattle.filter_encoding.specs.Encoding.{Prepared, encoding, literal_bytes, node_bytes, type_byte, type_bytes, version_of}
 use Rattle.filter_encoding.specs.Lists.{count_bytes}
 use Rattle.filter_encoding.specs.Steps.{type_at}
 
@@ -58,3 +58,24 @@ from_ten = record { types = integer_type I32 Nullable ∷ utf8_type Nullable ∷
 worked : encoding from_ten ≡
     1 ∷ 0 ∷ 0 ∷ 0 ∷ 0 ∷ 0 ∷ 0 ∷ 0 ∷ 2 ∷ 22 ∷ 25 ∷ 13 ∷ 6 ∷ 0 ∷ 0 ∷ 0 ∷ 0 ∷ 0 ∷ 0 ∷ 0 ∷ 0 ∷ 6 ∷ 13 ∷ 10 ∷ 12 ∷ 0 ∷ 0 ∷ 0 ∷ 0 ∷ 0 ∷ 0 ∷ 0 ∷ 1 ∷ 9 ∷ 21 ∷ 97 ∷ 98 ∷ 0 ∷ []
 worked = refl
+
+-- at >= 2026-03-01, over the column at, a date, which is an extension over an i32: the version is 2
+abbrev pub dates : TypeTree
+dates = extension_type (codes "vortex.date") (4 ∷ []) (integer_type I32 NonNullable)
+
+abbrev pub day : Cell
+day = record { typed = dates; content = whole (pos 20513) }
+
+abbrev pub from_day : Prepared
+from_day = record { types = dates ∷ []; filter = comparison 0 Gte day }
+
+date_bytes : type_bytes dates ≡ 32 ∷ 21 ∷ (codes "vortex.date" ++ 0 ∷ 22 ∷ 4 ∷ 0 ∷ 6 ∷ [])
+date_bytes = refl
+
+in_version_2 : encoding from_day ≡
+    2 ∷ 0 ∷ 0 ∷ 0 ∷ 0 ∷ 0 ∷ 0 ∷ 0 ∷ 1 ∷ 32 ∷ 21 ∷ 118 ∷ 111 ∷ 114 ∷ 116 ∷ 101 ∷ 120 ∷ 46 ∷ 100 ∷ 97 ∷ 116 ∷ 101 ∷ 0 ∷ 22 ∷ 4 ∷ 0 ∷ 6 ∷ 6 ∷ 0 ∷ 0 ∷ 0 ∷ 0 ∷ 0 ∷ 0 ∷ 0 ∷ 0 ∷ 32 ∷ 21 ∷ 118 ∷ 111 ∷ 114 ∷ 116 ∷ 101 ∷ 120 ∷ 46 ∷ 100 ∷ 97 ∷ 116 ∷ 101 ∷ 0 ∷ 22 ∷ 4 ∷ 0 ∷ 6 ∷ 14 ∷ 80 ∷ 33 ∷ []
+in_version_2 = refl
+
+-- filters of before have the bytes of before
+in_version_1 : version_of from_ten ≡ 1
+in_version_1 = refl

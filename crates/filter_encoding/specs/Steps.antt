@@ -2,25 +2,30 @@
 use Rattle.std.specs.Prelude.{◌≡◌, ℕ, ◌-◌, ◌<◌, ◌≤◌, ◌==◌, List, ◌∷◌, ◌++◌, drop, length, Box, Option, Some, None, Result, MatchResult, nat_lt, if◌then◌else◌}
 use Rattle.std.specs.Global.{Global}
 use Rattle.vortex_dtype.specs.TypeTree.{TypeTree, null_type, bool_type, integer_type, utf8_type, binary_type}
+use Rattle.vortex_dtype.specs.TypeOf.{type_of}
+use Rattle.vortex_dtype.specs.declared.types.DType.{DType}
 use Rattle.vortex_dtype.specs.declared.nullability.Nullability.{Nullability}
 use Rattle.vortex_dtype.specs.declared.nullability.Nullability.TheVariants.{NonNullable, Nullable}
 use Rattle.vortex_dtype.specs.declared.ptype.PType.TheVariants.{U8, U16, U32, U64, I8, I16, I32, I64}
-use Rattle.vortex_value.specs.Values.Content.{content}
+use Rattle.vortex_value.specs.Values.Content.{content, text, string}
 use Rattle.vortex_value.specs.Values.RawTree.{RawTree}
 use Rattle.vortex_value.specs.Values.Scalars.{scalar_content, scalar_raw, scalar_type}
 use Rattle.vortex_value.specs.declared.scalars.Scalar.{Scalar}
 use Rattle.vortex_row.specs.Decoded.{IsValueOf}
+use Rattle.vortex_row.specs.Held.{IsHeld}
 use Rattle.vortex_row.specs.Keys.{key}
 use Rattle.vortex_filter.specs.Formula.{Formula, formula}
 use Rattle.vortex_filter.specs.declared.filter.Filter.{Filter}
-use Rattle.filter_encoding.specs.Encoding.{IsLiteral, Nests, node_bytes, operator_byte, truth_byte}
-use Rattle.filter_encoding.specs.Strings.{IsEncodingOf, IsStuck, Reads, Then}
+use Rattle.filter_encoding.specs.Encoding.{HasByte, IsFormed, IsLiteral, IsPlain, IsVersion, Nests, byte_string, encoding_in, node_bytes, operator_byte, prepared, truth_byte, type_bytes}
+use Rattle.filter_encoding.specs.Answers.{IsEncoding}
+use Rattle.filter_encoding.specs.Strings.{HasRead, IsEncodingOf, IsStuck, Reads, Then}
 use Rattle.filter_encoding.specs.declared.error.FilterEncodingError.{FilterEncodingError}
-use Rattle.filter_encoding.specs.declared.error.FilterEncodingError.TheVariants.{BadBytes, NoEncoding, OutOfMemory}
+use Rattle.filter_encoding.specs.declared.error.FilterEncodingError.TheVariants.{BadBytes, NoEncoding, NotAValue, OutOfMemory}
 use Rattle.filter_encoding.specs.declared.heads.Head.{Head}
 use Rattle.filter_encoding.specs.declared.heads.Head.TheVariants.{Constant, Compare, IsNull, In, Between, StartsWith, And, Or, Not}
 use Rattle.filter_encoding.specs.declared.literals.Found.{Found}
 use Rattle.filter_encoding.specs.declared.literals.Found.TheVariants.{NoMemory, Value, Wrong}
+use Rattle.filter_encoding.specs.declared.prepared.PreparedFilter.{PreparedFilter}
 use Rattle.filter_encoding.specs.declared.reader.FilterDecodeError.{FilterDecodeError}
 use Rattle.filter_encoding.specs.declared.reader.FilterDecodeError.TheVariants.{Bad}
 
@@ -102,6 +107,26 @@ abbrev pub ReadsKey : TypeTree → Result Scalar FilterDecodeError → List ℕ 
 ReadsKey t r old now =
     MatchResult r (λ x. (scalar_type x ≡ t) × IsValueOf t (scalar_raw x) × (old ≡ key (scalar_content x) ++ now)) (λ e. e ≡ Bad → IsStuck (IsKeyOfType t) old now)
 
+-- a string is read by its key, or memory is refused, or the bytes go on as no such key
+abbrev pub ReadsText : Result (List ℕ) FilterDecodeError → List ℕ → List ℕ → Type 0
+ReadsText r old now = MatchResult r (λ s. IsHeld (text s) × (old ≡ key (text s) ++ now)) (λ e. e ≡ Bad → IsStuck (IsKeyOfType (utf8_type NonNullable)) old now)
+
+-- and bytes
+abbrev pub ReadsBytes : Result (List ℕ) FilterDecodeError → List ℕ → List ℕ → Type 0
+ReadsBytes r old now = MatchResult r (λ s. IsHeld (string s) × (old ≡ key (string s) ++ now)) (λ e. e ≡ Bad → IsStuck (IsKeyOfType (binary_type NonNullable)) old now)
+
+-- a type is read by its byte, or memory is refused, or the bytes go on as none
+abbrev pub ReadsByte : Result DType FilterDecodeError → List ℕ → List ℕ → Type 0
+ReadsByte r old now = Reads byte_string HasByte type_of r old now
+
+-- a type is read, or memory is refused, or the bytes go on as none
+abbrev pub ReadsType : Result DType FilterDecodeError → List ℕ → List ℕ → Type 0
+ReadsType r old now = Reads type_bytes IsPlain type_of r old now
+
+-- an encoding is read in some version, or memory is refused, or the bytes go on as none
+abbrev pub ReadsEncoding : ℕ → Result PreparedFilter FilterDecodeError → List ℕ → List ℕ → Type 0
+ReadsEncoding n r old now = MatchResult r (λ p. (version : ℕ) × IsVersion version × HasRead (encoding_in version) (IsFormed n) (prepared p) old now) (λ e. e ≡ Bad → IsStuck (IsEncoding n) old now)
+
 -- a filter with this first byte, which was taken, is read, or memory is refused, or the bytes go on as none
 abbrev pub ReadsBehind : ℕ → ℕ → Result Filter FilterDecodeError → List ℕ → List ℕ → Type 0
 ReadsBehind head n r old now = Reads node_bytes (IsNode n) formula r (head ∷ old) now
@@ -118,6 +143,7 @@ abbrev pub IsRefused : Type 0 → FilterEncodingError → Type 0
 IsRefused allowed OutOfMemory = Unit {0}
 IsRefused allowed NoEncoding = ¬ allowed
 IsRefused allowed (BadBytes place) = ⊥
+IsRefused allowed (NotAValue place) = ⊥
 
 -- the bytes are appended, and so much is known; or some bytes are, and there is no memory, or it is not allowed
 abbrev pub Appends : (known allowed : Type 0) → List ℕ → Result Unit FilterEncodingError → List ℕ → List ℕ → Type 0

@@ -9,9 +9,9 @@ pub use Rattle.vortex_cells.specs.Cells.{cell_of}
 pub use Rattle.statistics_bytes.specs.EncodingSteps.{ascending}
 pub use Rattle.vortex_filter.specs.FilterLiterals.{AreValid, literals_of}
 pub use Rattle.vortex_filter.specs.Formula.{formula}
-pub use Rattle.filter_encoding.specs.Answers.{IsFirstWrong, IsEncoding, ReadsAs}
-pub use Rattle.filter_encoding.specs.Encoding.{CanBeWritten, EncodingsAreApart, HasEncoding, IsHeldCell, IsLiteral, IsPlain, IsPlainCell, IsWritten, Nests, Prepared, encoding, integer_code, literal_bytes, node_bytes, null_code, operator_byte, parts_of, prepared, truth_byte, type_byte, type_bytes}
+pub use Rattle.filter_encoding.specs.Answers.{HasNoValue, IsFirstWrong, IsEncoding, ReadsAs}
+pub use Rattle.filter_encoding.specs.Encoding.{CanBeWritten, EncodingsAreApart, HasByte, HasEncoding, HasValues, IsLogicallyValid, IsPlainExtension, IsVersion, IsHeldCell, IsLiteral, IsPlain, IsPlainCell, IsWritten, Nests, Prepared, byte_string, encoding, encoding_in, extension_bytes, has_extended, is_extended, is_extension, integer_code, literal_bytes, node_bytes, null_code, operator_byte, parts_of, prepared, truth_byte, type_byte, type_bytes, version_of}
 pub use Rattle.filter_encoding.specs.Lists.{AreListed, AreSo, Fits, count_bytes, each_bytes, listed}
-pub use Rattle.filter_encoding.specs.Steps.{Appends, Begins, IsFound, IsNode, IsNodeEncoding, IsRefused, MayBegin, ReadsBehind, ReadsBoth, ReadsKey, Writes, head_byte, plain_at, type_at}
+pub use Rattle.filter_encoding.specs.Steps.{Appends, Begins, IsFound, IsNode, IsNodeEncoding, IsRefused, MayBegin, ReadsBehind, ReadsBoth, ReadsByte, ReadsBytes, ReadsEncoding, ReadsKey, ReadsText, ReadsType, Writes, head_byte, plain_at, type_at}
 pub use Rattle.filter_encoding.specs.Strings.{IsEncodingOf, IsStuck, Reads, left}
-pub use Rattle.filter_encoding.specs.declared.error.FilterEncodingError.TheVariants.{BadBytes, NoEncoding, OutOfMemory}
+pub use Rattle.filter_encoding.specs.declared.error.FilterEncodingError.TheVariants.{BadBytes, NoEncoding, NotAValue, OutOfMemory}

@@ -13,14 +13,18 @@ pub enum FilterEncodingError {
     /// An allocation was refused.
     #[error("out of memory")]
     OutOfMemory,
-    /// A column or a literal is of a type that has no byte, such as a list, or the filter nests too
-    /// deep.
+    /// A column or a literal is of a type that has no bytes, such as a list, a literal is no value of
+    /// its logical type, or has a variant in it, or the filter nests too deep.
     #[error("no encoding")]
     NoEncoding,
     /// The bytes are no encoding: the offset of the first byte that no encoding has there, or of
     /// the end if they end too early.
     #[error("no encoding of a filter: byte {offset}")]
     BadBytes { offset: usize },
+    /// A literal is no value of its logical type, as a day past the year 9999: the offset of the
+    /// first such value.
+    #[error("no value of its type: byte {offset}")]
+    NotAValue { offset: usize },
 }
 
 /// Out of memory, whatever was asked for.

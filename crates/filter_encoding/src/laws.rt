@@ -2,8 +2,9 @@
 
 ghost use Rattle.filter_encoding.specs.Words.{EncodingsAreApart};
 
-/// What begins with the encodings of two prepared filters has the same types, the same formula, and
-/// one rest. So a prepared filter has one encoding, and no encoding begins another.
+/// What begins with the encodings of two prepared filters has one version, the same types, the same
+/// formula, and one rest. So a prepared filter has one encoding in each version, and no encoding
+/// begins another.
 pub fn encodings_are_apart()
     ensures { EncodingsAreApart }
 {}

@@ -5,6 +5,7 @@
 #![tactic(auto)]
 
 mod error;
+mod extensions;
 mod heads;
 pub mod laws;
 mod literals;
@@ -13,6 +14,8 @@ mod prepared;
 mod reader;
 mod reading;
 mod types;
+mod values;
+mod versions;
 mod writing;
 
 pub use error::FilterEncodingError;

@@ -1,9 +1,10 @@
-//! Literals: the byte of a type, and the key of a value.
+//! Literals: the bytes of a type, and the key of a value.
 
 ghost use Rattle.std.specs.Prelude.{◌≡◌, ◌++◌, IfErr, IfOk, OnErr, OnOk, map};
 ghost use Rattle.std.specs.List.{AllByRecursion};
-ghost use Rattle.filter_encoding.specs.Words.{Appends, AreListed, AreSo, AreValid, HasNoTyped, HasNoVariant, IsFound, IsHeld};
-ghost use Rattle.filter_encoding.specs.Words.{IsHeldCell, IsLiteral, IsPlain, IsPlainCell, IsRefused, IsValid};
+ghost use Rattle.filter_encoding.specs.Words.{Appends, AreListed, AreSo, AreValid, HasNoTyped, HasNoVariant};
+ghost use Rattle.filter_encoding.specs.Words.{IsFound, IsHeld, IsHeldCell, IsLiteral, IsPlain, IsPlainCell};
+ghost use Rattle.filter_encoding.specs.Words.{IsRefused, IsValid};
 ghost use Rattle.filter_encoding.specs.Words.{Reads, ReadsKey, ascending, cell_of, each_bytes, key, left, listed};
 ghost use Rattle.filter_encoding.specs.Words.{literal_bytes, scalar_content, scalar_type, type_of};
 
@@ -11,6 +12,7 @@ use crate::error::FilterEncodingError;
 use crate::places::{append_place, read_place};
 use crate::reader::{FilterDecodeError, Reader};
 use crate::types::{append_type, read_type};
+use crate::values::is_logically_valid;
 use std::alloc::Global;
 use vortex_dtype::DType;
 use vortex_row::{RowError, SortOptions, append_key, decode_key};
@@ -47,7 +49,7 @@ fn find_value(alloc: Global, dtype: &DType, bytes: &[u8]) -> Found
 }
 
 /// The next value of the type, by its key.
-fn read_value(
+pub(crate) fn read_value(
     alloc: Global,
     dtype: &DType,
     reader: &mut Reader<'_>,
@@ -76,8 +78,11 @@ pub(crate) fn read_literal(
     ensures read { Reads literal_bytes IsLiteral cell_of result (left reader.old) (left reader.new) }
     ensures valid { IfOk result IsValid }
 {
-    let dtype = read_type(reader)?;
-    read_value(alloc, &dtype, reader)
+    let dtype = read_type(alloc, reader)?;
+    let place = reader.rest.len();
+    let literal = read_value(alloc, &dtype, reader)?;
+    reader.note(place, is_logically_valid(&literal));
+    Ok(literal)
 }
 
 /// So many literals.
@@ -113,7 +118,7 @@ pub(crate) fn read_literals(
 
 /// Appends the key of a scalar of such a type. `NoEncoding` if a variant stands in it.
 #[tactic(auto, using(statistics_bytes::proofs::WriteSteps::keys))]
-fn append_value(literal: &Scalar, out: &mut Vec<u8>) -> Result<(), FilterEncodingError>
+pub(crate) fn append_value(literal: &Scalar, out: &mut Vec<u8>) -> Result<(), FilterEncodingError>
     requires { HasNoVariant (scalar_type literal.now) }
     ensures appended { OnOk result
         (out.new.items ≡ out.old.items ++ key (scalar_content literal.now)) }
@@ -129,11 +134,14 @@ fn append_value(literal: &Scalar, out: &mut Vec<u8>) -> Result<(), FilterEncodin
     }
 }
 
-/// Appends a literal.
+/// Appends a literal. `NoEncoding` of one that is no value of its logical type.
 pub(crate) fn append_literal(literal: &Scalar, out: &mut Vec<u8>) -> Result<(), FilterEncodingError>
     ensures { Appends (IsHeldCell (cell_of literal.now)) (IsPlainCell (cell_of literal.now))
         (literal_bytes (cell_of literal.now)) result out.old.items out.new.items }
 {
+    if !is_logically_valid(literal) {
+        return Err(FilterEncodingError::NoEncoding);
+    }
     append_type(literal.dtype(), out)?;
     append_value(literal, out)
 }

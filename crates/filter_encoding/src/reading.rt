@@ -1,8 +1,9 @@
 //! A prepared filter from its encoding in bytes.
 
 ghost use Rattle.std.specs.Prelude.{◌≡◌, ◌≢◌, ◌∷◌, ◌⊎◌, ◌<◌, ◌≤◌, ℕ, List, Err, IfErr, IfOk, MatchResult};
-ghost use Rattle.filter_encoding.specs.Words.{AreValid, BadBytes, HasEncoding, IsFirstWrong, IsEncoding, IsNode};
-ghost use Rattle.filter_encoding.specs.Words.{OutOfMemory, Prepared, Reads, ReadsAs, ReadsBehind, ReadsBoth, encoding};
+ghost use Rattle.filter_encoding.specs.Words.{AreValid, BadBytes, HasEncoding, HasNoValue, HasValues, IsEncoding};
+ghost use Rattle.filter_encoding.specs.Words.{IsFirstWrong, IsNode, IsVersion, NotAValue, OutOfMemory, Prepared, Reads};
+ghost use Rattle.filter_encoding.specs.Words.{ReadsAs, ReadsBehind, ReadsBoth, ReadsEncoding, encoding_in};
 ghost use Rattle.filter_encoding.specs.Words.{formula, left, literals_of, node_bytes, operator_byte, prepared};
 
 use crate::error::FilterEncodingError;
@@ -12,52 +13,69 @@ use crate::places::read_place;
 use crate::prepared::PreparedFilter;
 use crate::reader::{FilterDecodeError, Reader};
 use crate::types::read_types;
-use crate::writing::VERSION;
+use crate::values::has_values;
+use crate::versions::{EXTENDED, PLAIN};
 use std::alloc::Global;
 use vortex_filter::{CompareOperator, Filter, both, either, negation};
 
-/// The prepared filter that has this encoding, in which at most `depth` connectives nest.
+/// The prepared filter that has this encoding, in either version, in which at most `depth`
+/// connectives nest.
 ///
 /// `BadBytes` if the bytes are not, whole, the encoding of such a filter: its offset is that of the
-/// first byte that no such encoding has there, or of the end if they end too early. `OutOfMemory`
-/// may come in place of each answer. Each literal of the filter is valid for its type.
+/// first byte that no such encoding has there, or of the end if they end too early. Else `NotAValue`
+/// if a literal is no value of its logical type: its offset is that of the first such value.
+/// `OutOfMemory` may come in place of each answer. Each literal of the filter is valid for its type,
+/// and a value of its logical type.
 pub fn read_filter(
     alloc: Global,
     depth: usize,
     bytes: &[u8],
 ) -> Result<PreparedFilter, FilterEncodingError>
-    ensures read { IfOk result
-        (λ p. HasEncoding depth (prepared p) × (bytes.now ≡ encoding (prepared p))) }
+    ensures read { IfOk result (λ p. (version : ℕ) × IsVersion version
+        × HasEncoding depth (prepared p) × (bytes.now ≡ encoding_in version (prepared p))) }
     ensures valid { IfOk result (λ p. AreValid (literals_of p.filter)) }
-    ensures whole { (p : Prepared) → HasEncoding depth p → bytes.now ≡ encoding p → ReadsAs p result }
+    ensures whole { (version : ℕ) (p : Prepared) → IsVersion version → HasEncoding depth p
+        → bytes.now ≡ encoding_in version p → ReadsAs p result }
     ensures bad { (place : ℕ) → result ≡ Err (BadBytes place)
         → IsFirstWrong (IsEncoding depth) bytes.now place }
+    ensures no_value { (place : ℕ) → result ≡ Err (NotAValue place) → HasNoValue depth bytes.now }
     ensures refused { IfErr result (λ e. (e ≡ OutOfMemory)
-        ⊎ ((place : ℕ) × (e ≡ BadBytes place))) }
+        ⊎ (((place : ℕ) × (e ≡ BadBytes place)) ⊎ ((place : ℕ) × (e ≡ NotAValue place)))) }
 {
-    let mut reader = Reader { rest: bytes };
+    let mut reader = Reader {
+        rest: bytes,
+        no_value: None,
+    };
     let answer = read_encoding(alloc, depth, &mut reader);
     let taken = bytes.len().saturating_sub(reader.rest.len());
+    let no_value = bytes.len().saturating_sub(reader.no_value.unwrap_or(0));
     match answer {
-        Ok(prepared) => whole_or_bad(prepared, taken, bytes.len()),
+        Ok(prepared) => whole_or_bad(prepared, taken, bytes.len(), no_value),
         Err(FilterDecodeError::NoMemory) => Err(FilterEncodingError::OutOfMemory),
         Err(FilterDecodeError::Bad) => Err(FilterEncodingError::BadBytes { offset: taken }),
     }
 }
 
-/// The prepared filter, if its encoding was all of the bytes.
+/// The prepared filter, if its encoding was all of the bytes, and each literal is a value of its
+/// logical type.
 fn whole_or_bad(
     prepared: PreparedFilter,
     taken: usize,
     length: usize,
+    no_value: usize,
 ) -> Result<PreparedFilter, FilterEncodingError>
     ensures { MatchResult result
-        (λ p. (p ≡ prepared) × (length ≤ taken))
-        (λ e. (e ≡ BadBytes taken) × (taken < length)) }
+        (λ p. (p ≡ prepared) × (length ≤ taken) × HasValues (formula prepared.filter))
+        (λ e. ((e ≡ BadBytes taken) × (taken < length))
+        ⊎ ((e ≡ NotAValue no_value) × (length ≤ taken) × ¬ (HasValues (formula prepared.filter)))) }
 {
     if taken < length {
         drop(prepared);
         return Err(FilterEncodingError::BadBytes { offset: taken });
+    }
+    if !has_values(&prepared.filter) {
+        drop(prepared);
+        return Err(FilterEncodingError::NotAValue { offset: no_value });
     }
     Ok(prepared)
 }
@@ -68,7 +86,7 @@ fn read_encoding(
     depth: usize,
     reader: &mut Reader<'_>,
 ) -> Result<PreparedFilter, FilterDecodeError>
-    ensures read { Reads encoding (HasEncoding depth) prepared result (left reader.old) (left reader.new) }
+    ensures read { ReadsEncoding depth result (left reader.old) (left reader.new) }
     ensures valid { IfOk result (λ p. AreValid (literals_of p.filter)) }
 {
     read_version(reader)?;
@@ -85,15 +103,17 @@ fn read_encoding(
 /// Takes the version.
 fn read_version(reader: &mut Reader<'_>) -> Result<(), FilterDecodeError>
     ensures { MatchResult result
-        (λ _. left reader.old ≡ 1 ∷ left reader.new)
+        (λ _. (version : ℕ) × IsVersion version × (left reader.old ≡ version ∷ left reader.new))
         (λ e. (left reader.new ≡ left reader.old)
-        × ((bs : List ℕ) → left reader.old ≢ 1 ∷ bs)) }
+        × ((version : ℕ) (bs : List ℕ) → IsVersion version → left reader.old ≢ version ∷ bs)) }
 {
-    if reader.takes(VERSION) {
-        Ok(())
-    } else {
-        Err(FilterDecodeError::Bad)
+    if reader.takes(PLAIN) {
+        return Ok(());
     }
+    if reader.takes(EXTENDED) {
+        return Ok(());
+    }
+    Err(FilterDecodeError::Bad)
 }
 
 /// The next filter, in which at most so many connectives nest.

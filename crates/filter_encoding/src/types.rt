@@ -2,10 +2,12 @@
 
 ghost use Rattle.std.specs.Prelude.{◌≡◌, ◌+◌, IfSome, MatchOption, map, option_map};
 ghost use Rattle.std.specs.List.{AllByRecursion};
-ghost use Rattle.filter_encoding.specs.Words.{AreListed, AreSo, IsPlain, Reads, Writes, each_bytes, integer_code, left};
-ghost use Rattle.filter_encoding.specs.Words.{listed, null_code, plain_at, type_at, type_byte, type_bytes, type_of};
+ghost use Rattle.filter_encoding.specs.Words.{AreListed, AreSo, HasByte, IsPlain, Reads, ReadsByte, ReadsType, Writes};
+ghost use Rattle.filter_encoding.specs.Words.{byte_string, each_bytes, integer_code, left, listed, null_code, plain_at};
+ghost use Rattle.filter_encoding.specs.Words.{type_at, type_byte, type_bytes, type_of};
 
 use crate::error::FilterEncodingError;
+use crate::extensions::{EXTENSION, append_extension, extension_in, read_extension};
 use crate::places::{append_place, read_place};
 use crate::reader::{FilterDecodeError, Reader};
 use crate::writing::append_byte;
@@ -46,8 +48,8 @@ fn null_code(nullability: Nullability) -> u8
 /// The byte of a type. `None` exactly if it has none.
 #[tactic(auto, using(crate::proofs::TypeLaws::levels))]
 fn byte_of(dtype: &DType) -> Option<u8>
-    ensures { MatchOption result (¬ (IsPlain (type_of dtype.now)))
-        (λ byte. IsPlain (type_of dtype.now) × (byte ≡ type_byte (type_of dtype.now))) }
+    ensures { MatchOption result (¬ (HasByte (type_of dtype.now)))
+        (λ byte. HasByte (type_of dtype.now) × (byte ≡ type_byte (type_of dtype.now))) }
 {
     match dtype {
         DType::Null => Some(NULL),
@@ -65,7 +67,7 @@ fn byte_of(dtype: &DType) -> Option<u8>
 #[tactic(auto, using(crate::proofs::TypeLaws::levels))]
 fn plain_from(code: u8, nullability: Nullability) -> Option<DType>
     ensures tree { option_map type_of result ≡ plain_at code nullability }
-    ensures byte { IfSome result (λ dtype. IsPlain (type_of dtype)
+    ensures byte { IfSome result (λ dtype. HasByte (type_of dtype)
         × (type_byte (type_of dtype) ≡ code + null_code nullability)) }
 {
     match code {
@@ -87,7 +89,7 @@ fn plain_from(code: u8, nullability: Nullability) -> Option<DType>
 /// The type with this byte.
 fn type_from(byte: u8) -> Option<DType>
     ensures tree { option_map type_of result ≡ type_at byte }
-    ensures byte { IfSome result (λ dtype. IsPlain (type_of dtype)
+    ensures byte { IfSome result (λ dtype. HasByte (type_of dtype)
         × (type_byte (type_of dtype) ≡ byte)) }
 {
     if byte == NULL {
@@ -100,8 +102,19 @@ fn type_from(byte: u8) -> Option<DType>
 }
 
 /// The next type.
-pub(crate) fn read_type(reader: &mut Reader<'_>) -> Result<DType, FilterDecodeError>
-    ensures { Reads type_bytes IsPlain type_of result (left reader.old) (left reader.new) }
+pub(crate) fn read_type(alloc: Global, reader: &mut Reader<'_>) -> Result<DType, FilterDecodeError>
+    ensures { ReadsType result (left reader.old) (left reader.new) }
+{
+    if reader.takes(EXTENSION) {
+        read_extension(alloc, reader)
+    } else {
+        read_byte_type(reader)
+    }
+}
+
+/// The next type, by its byte.
+pub(crate) fn read_byte_type(reader: &mut Reader<'_>) -> Result<DType, FilterDecodeError>
+    ensures { ReadsByte result (left reader.old) (left reader.new) }
 {
     let Some(byte) = reader.first() else {
         return Err(FilterDecodeError::Bad);
@@ -124,7 +137,7 @@ fn read_so_many(
 {
     let mut dtypes = Vec::new(alloc);
     for taken in 0..count {
-        let dtype = read_type(reader)?;
+        let dtype = read_type(alloc, reader)?;
         dtypes.push(dtype)?;
     }
     Ok(dtypes)
@@ -142,9 +155,20 @@ pub(crate) fn read_types(
     read_so_many(alloc, count, reader)
 }
 
-/// Appends the byte of a type.
+/// Appends a type.
 pub(crate) fn append_type(dtype: &DType, out: &mut Vec<u8>) -> Result<(), FilterEncodingError>
     ensures { Writes (IsPlain (type_of dtype.now)) (type_bytes (type_of dtype.now))
+        result out.old.items out.new.items }
+{
+    match extension_in(dtype) {
+        Some(extension) => append_extension(extension, out),
+        None => append_byte_type(dtype, out),
+    }
+}
+
+/// Appends the byte of a type.
+pub(crate) fn append_byte_type(dtype: &DType, out: &mut Vec<u8>) -> Result<(), FilterEncodingError>
+    ensures { Writes (HasByte (type_of dtype.now)) (byte_string (type_of dtype.now))
         result out.old.items out.new.items }
 {
     match byte_of(dtype) {
@@ -153,7 +177,7 @@ pub(crate) fn append_type(dtype: &DType, out: &mut Vec<u8>) -> Result<(), Filter
     }
 }
 
-/// Appends how many types there are, and the byte of each.
+/// Appends how many types there are, and each.
 pub(crate) fn append_types(dtypes: &[DType], out: &mut Vec<u8>) -> Result<(), FilterEncodingError>
     ensures { Writes (AreListed IsPlain (map type_of dtypes.now))
         (listed type_bytes (map type_of dtypes.now)) result out.old.items out.new.items }
@@ -162,7 +186,7 @@ pub(crate) fn append_types(dtypes: &[DType], out: &mut Vec<u8>) -> Result<(), Fi
     append_each(dtypes, out)
 }
 
-/// Appends the byte of each type.
+/// Appends each type.
 fn append_each(dtypes: &[DType], out: &mut Vec<u8>) -> Result<(), FilterEncodingError>
     ensures { Writes (AllByRecursion IsPlain (map type_of dtypes.now))
         (each_bytes type_bytes (map type_of dtypes.now)) result out.old.items out.new.items }

@@ -13,20 +13,19 @@ use crate::heads::Head;
 use crate::literals::{append_literal, append_literals};
 use crate::places::append_place;
 use crate::types::append_types;
+use crate::versions::version_of;
 use vortex_dtype::DType;
 use vortex_filter::{CompareOperator, Filter};
 use vortex_value::Scalar;
 
-/// The version of the layout: the first byte of each encoding.
-pub(crate) const VERSION: u8 = 1;
-
 /// Appends the encoding of the filter over columns of these types, and nothing else.
 ///
 /// `NoEncoding` only if a column or a literal is of a type other than integers, bool, strings,
-/// bytes and nulls, if a variant stands in a literal, or if more than `depth` connectives nest. Such
-/// a filter is never written. `OutOfMemory` is the only other refusal. After a refusal `out` has the
-/// bytes that it had. The literals need not be valid for their types. If they are, `read_filter`
-/// reads what is written, at the same depth.
+/// bytes, nulls and extensions over these, if a literal is no value of its logical type, if a
+/// variant stands in one, or if more than `depth` connectives nest. Such a filter is never written.
+/// `OutOfMemory` is the only other refusal. After a refusal `out` has the bytes that it had. The
+/// literals need not be valid for their types. If they are, `read_filter` reads what is written, at
+/// the same depth.
 pub fn append_filter(
     filter: &Filter,
     columns: &[DType],
@@ -80,7 +79,7 @@ fn append_parts(
         (CanBeWritten depth (parts_of columns.now filter.now))
         (encoding (parts_of columns.now filter.now)) result out.old.items out.new.items }
 {
-    append_byte(VERSION, out)?;
+    append_byte(version_of(filter, columns), out)?;
     append_types(columns, out)?;
     append_node(filter, depth, out)
 }

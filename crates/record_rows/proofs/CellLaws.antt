@@ -9,7 +9,10 @@ use Rattle.vortex_dtype.specs.declared.ptype.PType.{PType}
 use Rattle.vortex_value.specs.Values.Content.{Content, null, string, text, whole}
 use Rattle.vortex_value.specs.Values.Scalars.{IsValid, scalar_content, scalar_type}
 use Rattle.vortex_value.specs.declared.scalars.Scalar.{Scalar}
-use Rattle.record_rows.specs.Cells.{HasMeaning, HasNoCell, HasNoMeaning, HasNoValue, IsBinaryCell, IsCell, IsContent, IsIntegerCell, IsTextCell, IsValueCell, Means, column_type, is_null_field, type_by}
+use Rattle.logical_types.specs.Words.{Writes}
+use Rattle.logical_types.specs.declared.logical.LogicalType.{LogicalType}
+use Rattle.record_rows.specs.Cells.{HasMeaning, HasNoCell, HasNoMeaning, HasNoValue, IsBinaryCell, IsBytesCell, IsCell, IsContent, IsIntegerCell, IsLogicalCell, IsTextCell, IsValueCell, Means, column_type, stored_content, type_by}
+use Rattle.record_rows.specs.Readings.{Reading, is_null_field}
 use Rattle.record_rows.specs.Words.{IsIntegerWord}
 use Rattle.record_rows.specs.declared.schema.ColumnType.{ColumnType}
 use Rattle.record_rows.specs.declared.schema.Kind.{Kind}
@@ -61,6 +64,28 @@ pub binary_value : {E : Type 0} (column : ColumnType) (word : List ℕ) (r : Res
 binary_value column word (Ok o) e h = binary_one column word o e h
 binary_value column word (Err x) e h = tt
 
+pub bytes_value : (column : ColumnType) (word : List ℕ) (x : Scalar) → column.kind ≡ kinds.Bytes → IsBytesCell column.nullability word x → IsValueCell column word x
+bytes_value column word x e h = record {
+  typed = h.typed ∙ ap (λ (k : Kind). type_by k column.nullability) (sym e);
+  content = subst (λ (k : Kind). Means k word (scalar_content x)) (sym e) h.content;
+  valid = h.valid;
+}
+
+logical_none : (k : Kind) (l : LogicalType) (word : List ℕ) → k ≡ kinds.Logical l → ((z : ℤ) → ¬ (Writes l word z)) → (c : Content) → ¬ (Means k word c)
+logical_none k l word e none c = subst (λ (i : Kind). ¬ (Means i word c)) (sym e) (λ h. none h.0 h.1)
+
+logical_one : (column : ColumnType) (l : LogicalType) (word : List ℕ) (o : Option Scalar) → column.kind ≡ kinds.Logical l → MatchOption o ((z : ℤ) → ¬ (Writes l word z)) (IsLogicalCell l column.nullability word) → Answers column word o
+logical_one column l word None e h = logical_none column.kind l word e h
+logical_one column l word (Some x) e h = record {
+  typed = h.typed ∙ ap (λ (k : Kind). type_by k column.nullability) (sym e);
+  content = subst (λ (k : Kind). Means k word (scalar_content x)) (sym e) (h.storage, h.is, h.content);
+  valid = h.valid;
+}
+
+pub logical_value : {E : Type 0} (column : ColumnType) (l : LogicalType) (word : List ℕ) (r : Result (Option Scalar) E) → column.kind ≡ kinds.Logical l → IfOk r (λ o. MatchOption o ((z : ℤ) → ¬ (Writes l word z)) (IsLogicalCell l column.nullability word)) → IfOk r (Answers column word)
+logical_value column l word (Ok o) e h = logical_one column l word o e h
+logical_value column l word (Err x) e h = tt
+
 -- ---- words that mean something
 
 pub integer_meaning : (kind : Kind) (p : PType) (word : List ℕ) (b : Bool) → kind ≡ kinds.Integer p → MatchBool b ((z : ℤ) × IsIntegerWord p word z) ((z : ℤ) → ¬ (IsIntegerWord p word z)) → MatchBool b (HasMeaning kind word) (HasNoMeaning kind word)
@@ -79,28 +104,35 @@ pub binary_meanings : {E : Type 0} (kind : Kind) (word : List ℕ) (r : Result B
 binary_meanings kind word (Ok b) e h = binary_meaning kind word b e h
 binary_meanings kind word (Err x) e h = tt
 
+pub bytes_meaning : (kind : Kind) (word : List ℕ) → kind ≡ kinds.Bytes → HasMeaning kind word
+bytes_meaning kind word e = (string word, subst (λ (k : Kind). Means k word (string word)) (sym e) refl)
+
+pub logical_meaning : (kind : Kind) (l : LogicalType) (word : List ℕ) (b : Bool) → kind ≡ kinds.Logical l → MatchBool b ((z : ℤ) × Writes l word z) ((z : ℤ) → ¬ (Writes l word z)) → MatchBool b (HasMeaning kind word) (HasNoMeaning kind word)
+logical_meaning kind l word true e h = (stored_content l h.0, subst (λ (k : Kind). Means k word (stored_content l h.0)) (sym e) (h.0, h.1, refl))
+logical_meaning kind l word false e h = logical_none kind l word e h
+
 -- ---- nulls
 
-pub null_takes : (n : Nullability) (f : Field) → is_null_field n f ≡ true → n ≡ Nullable
-null_takes Nullable f h = refl
-null_takes NonNullable f h = absurd cc
+pub null_takes : (reading : Reading) (n : Nullability) (f : Field) → is_null_field reading n f ≡ true → n ≡ Nullable
+null_takes reading Nullable f h = refl
+null_takes reading NonNullable f h = absurd cc
 
-pub null_content : (column : ColumnType) (f : Field) (c : Content) → is_null_field column.nullability f ≡ true → c ≡ null → IsContent column f c
-null_content column f c e h = rw e h
+pub null_content : (reading : Reading) (column : ColumnType) (f : Field) (c : Content) → is_null_field reading column.nullability f ≡ true → c ≡ null → IsContent reading column f c
+null_content reading column f c e h = rw e h
 
-pub null_cell : (column : ColumnType) (f : Field) (x : Scalar) → is_null_field column.nullability f ≡ true → scalar_type x ≡ column_type column → scalar_content x ≡ null → IsValid x → IsCell column f x
-null_cell column f x e typed content valid = record { typed = typed; content = null_content column f (scalar_content x) e content; valid = valid }
+pub null_cell : (reading : Reading) (column : ColumnType) (f : Field) (x : Scalar) → is_null_field reading column.nullability f ≡ true → scalar_type x ≡ column_type column → scalar_content x ≡ null → IsValid x → IsCell reading column f x
+null_cell reading column f x e typed content valid = record { typed = typed; content = null_content reading column f (scalar_content x) e content; valid = valid }
 
-word_content : (column : ColumnType) (f : Field) (c : Content) → is_null_field column.nullability f ≡ false → Means column.kind f.text c → IsContent column f c
-word_content column f c e h = rw e h
+word_content : (reading : Reading) (column : ColumnType) (f : Field) (c : Content) → is_null_field reading column.nullability f ≡ false → Means column.kind f.text c → IsContent reading column f c
+word_content reading column f c e h = rw e h
 
-content_word : (column : ColumnType) (f : Field) (c : Content) → is_null_field column.nullability f ≡ false → IsContent column f c → Means column.kind f.text c
-content_word column f c e h = subst (λ (b : Bool). MatchBool b (c ≡ null) (Means column.kind f.text c)) e h
+content_word : (reading : Reading) (column : ColumnType) (f : Field) (c : Content) → is_null_field reading column.nullability f ≡ false → IsContent reading column f c → Means column.kind f.text c
+content_word reading column f c e h = subst (λ (b : Bool). MatchBool b (c ≡ null) (Means column.kind f.text c)) e h
 
-word_cell : (column : ColumnType) (f : Field) (o : Option Scalar) → is_null_field column.nullability f ≡ false → Answers column f.text o → MatchOption o (HasNoCell column f) (IsCell column f)
-word_cell column f None e h = λ c is. h c (content_word column f c e is)
-word_cell column f (Some x) e h = record { typed = h.typed; content = word_content column f (scalar_content x) e h.content; valid = h.valid }
+word_cell : (reading : Reading) (column : ColumnType) (f : Field) (o : Option Scalar) → is_null_field reading column.nullability f ≡ false → Answers column f.text o → MatchOption o (HasNoCell reading column f) (IsCell reading column f)
+word_cell reading column f None e h = λ c is. h c (content_word reading column f c e is)
+word_cell reading column f (Some x) e h = record { typed = h.typed; content = word_content reading column f (scalar_content x) e h.content; valid = h.valid }
 
-pub word_cells : {E : Type 0} (column : ColumnType) (f : Field) (r : Result (Option Scalar) E) → is_null_field column.nullability f ≡ false → IfOk r (Answers column f.text) → IfOk r (λ o. MatchOption o (HasNoCell column f) (IsCell column f))
-word_cells column f (Ok o) e h = word_cell column f o e h
-word_cells column f (Err x) e h = tt
+pub word_cells : {E : Type 0} (reading : Reading) (column : ColumnType) (f : Field) (r : Result (Option Scalar) E) → is_null_field reading column.nullability f ≡ false → IfOk r (Answers column f.text) → IfOk r (λ o. MatchOption o (HasNoCell reading column f) (IsCell reading column f))
+word_cells reading column f (Ok o) e h = word_cell reading column f o e h
+word_cells reading column f (Err x) e h = tt

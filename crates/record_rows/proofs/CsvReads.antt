@@ -1,7 +1,9 @@
 -- What a reader of `csv` gives are the rows of what it has left, by the law of rows.
-use Rattle.std.proofs.Common.{◌≡◌, ◌∙◌, ℕ, List, [], ◌∷◌, ◌++◌, true, false, Option, Some, ap, map, sym, ap₂, refl, subst, append_assoc, append-nil}
+use Rattle.std.proofs.Common.{◌≡◌, ◌⊎◌, ◌∙◌, inl, inr, ℕ, List, [], ◌∷◌, ◌++◌, true, false, Option, Some, ap, map, sym, ap₂, refl, subst, append_assoc, append-nil}
 use Rattle.csv.proofs.ReadFacts.{rows-end, rows-more}
-use Rattle.csv.specs.Reading.{Reached, ReadRecord, source_of}
+use Rattle.csv.specs.Reading.{ExplainsRead, Reached, ReadRecord, is_flexible, is_io, source_of}
+use Rattle.csv.specs.declared.error.ErrorKind.{ErrorKind}
+use Rattle.csv.specs.declared.error.ErrorKind.TheVariants as kinds
 use Rattle.csv.specs.declared.parser.State.{State}
 use Rattle.csv.specs.declared.reader.Reader.{Reader}
 use Rattle.csv_records.specs.Laws.{AreNext, RowsAreRead, texts_of}
@@ -36,3 +38,12 @@ row_none law rem a b d fields bytes before all config source read so_far =
     let ended = rows-end rem a b fields (config_of d) bytes config source read in
     let none : rows_from d a.state [] false bytes ≡ [] = subst (λ o. AreNext d o (rows_from d a.state [] false bytes)) ended (law d a.state bytes) in
     sym (append-nil before) ∙ ap (λ rows. before ++ map texts_of rows) (sym none) ∙ so_far
+
+-- why a row of any length was not read
+pub not_read : {R : Type 0} (rem : R → Option (List ℕ)) (a b : Reader R) (k : ErrorKind) → is_flexible a ≡ true → ExplainsRead rem a b false k → (k ≡ kinds.OutOfMemory) ⊎ (is_io k ≡ true)
+not_read rem a b (kinds.Io e) flexible why = inr refl
+not_read rem a b kinds.OutOfMemory flexible why = inl refl
+not_read rem a b (kinds.UnequalLengths pos expected len) flexible why = absurd (cc (why.0))
+not_read rem a b (kinds.Utf8 pos err) flexible why = absurd (cc (why.0))
+not_read rem a b (kinds.Serialize text) flexible why = absurd why
+not_read rem a b (kinds.Deserialize pos err) flexible why = absurd why

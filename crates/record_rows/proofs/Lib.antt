@@ -1,6 +1,7 @@
 mod AsciiMarks
 pub mod CellLaws
 mod CsvReads
+mod NullWords
 mod ObservedFields
 pub mod Reading
 mod Walking

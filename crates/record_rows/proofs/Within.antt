@@ -5,7 +5,12 @@ use Rattle.std.proofs.lemmas.Cmp.{int_ranked}
 use Rattle.std.specs.Ordering.{int_cmp}
 use Rattle.std.specs.declared.cmp.Ordering.TheVariants.{Equal, Greater, Less}
 use Rattle.csv_records.specs.Rows.{Field}
-use Rattle.record_rows.specs.Cells.{IsContent, Means, column_type, is_null_field}
+use Rattle.logical_scalars.specs.Stored.{raw_storage}
+use Rattle.logical_types.specs.Extensions.{storage_type_of}
+use Rattle.logical_types.specs.declared.extensions.StorageType.{StorageType}
+use Rattle.logical_types.specs.declared.extensions.StorageType.TheVariants.{Bytes, I32, I64}
+use Rattle.record_rows.specs.Cells.{IsContent, Means, column_type}
+use Rattle.record_rows.specs.Readings.{Reading, is_null_field, is_null_word}
 use Rattle.record_rows.specs.Rows.{IsTaken}
 use Rattle.record_rows.specs.declared.schema.ColumnType.{ColumnType}
 use Rattle.record_rows.specs.declared.schema.Kind.{Kind}
@@ -29,7 +34,7 @@ use Rattle.vortex_value.specs.Equality.{same_type}
 use Rattle.vortex_value.specs.Lemmas.EqualityLaws.{same_type-Decides}
 use Rattle.vortex_value.specs.Order.{IsReversed, IsTransitive, order}
 use Rattle.vortex_value.specs.Validity.{Valid}
-use Rattle.vortex_value.specs.Values.Content.{Content, text, whole}
+use Rattle.vortex_value.specs.Values.Content.{Content, content, text, whole}
 use Rattle.vortex_value.specs.Values.Scalars.{IsMadeOf, IsValid, scalar_content, scalar_raw, scalar_type}
 use Rattle.vortex_value.specs.declared.scalars.Scalar.{Scalar}
 use Rattle.vortex_value.specs.declared.values.ScalarValue.{the_lemmas as value_lemmas}
@@ -120,18 +125,25 @@ counted reversed transitive s t l u v x fits lower_is upper_is there valued h is
 
 -- ---- a word that is observed in place
 
-some_field : (n : Nullability) (word : List ℕ) (q : Bool) → 0 < length word → is_null_field n (record { text = word; is_quoted = q }) ≡ false
-some_field Nullable word q h = rw (ne_eqb (length word) 0 (λ e. omega (arith, h, e))) refl
-some_field NonNullable word q h = refl
+some_field : (reading : Reading) (n : Nullability) (word : List ℕ) (q : Bool) → 0 < length word → is_null_word reading.nulls word ≡ false → is_null_field reading n (record { text = word; is_quoted = q }) ≡ false
+some_field reading Nullable word q h none = rw (ne_eqb (length word) 0 (λ e. omega (arith, h, e)), none) refl
+some_field reading NonNullable word q h none = refl
+
+stored_no_null : (k : StorageType) (z : ℤ) → is_null_content (content (raw_storage k z)) ≡ false
+stored_no_null I32 z = refl
+stored_no_null I64 z = refl
+stored_no_null Bytes z = refl
 
 no_null : (kind : Kind) (word : List ℕ) (c : Content) → Means kind word c → is_null_content c ≡ false
 no_null (kinds.Integer k) word c h = ap is_null_content h.2
 no_null kinds.Utf8 word c h = ap is_null_content h.1
 no_null kinds.Binary word c h = ap is_null_content h.2
+no_null kinds.Bytes word c h = ap is_null_content h
+no_null (kinds.Logical l) word c h = ap is_null_content h.2 ∙ stored_no_null (storage_type_of l) h.0
 
-pub word_observed : IsReversed order → IsTransitive order → (column : ColumnType) (word : List ℕ) (s t : Known) (l u v : KnownBound) → 0 < length word → s.row_count + 1 < 2 ^ 64 → s.lower ≡ Some l → s.upper ≡ Some u → may_be_value s ≡ true → TakesWord column word l u v → t ≡ with_upper s v → ObservesWord column word s t
-word_observed reversed transitive column word s t l u v some fits lower_is upper_is valued h is = λ lenient q.
-    let content : IsContent column (record { text = word; is_quoted = q }) h.0 = rw (some_field column.nullability word q some) h.1 in
+pub word_observed : IsReversed order → IsTransitive order → (reading : Reading) (column : ColumnType) (word : List ℕ) (s t : Known) (l u v : KnownBound) → 0 < length word → is_null_word reading.nulls word ≡ false → s.row_count + 1 < 2 ^ 64 → s.lower ≡ Some l → s.upper ≡ Some u → may_be_value s ≡ true → TakesWord column word l u v → t ≡ with_upper s v → ObservesWord reading column word s t
+word_observed reversed transitive reading column word s t l u v some none fits lower_is upper_is valued h is = λ q.
+    let content : IsContent reading column (record { text = word; is_quoted = q }) h.0 = rw (some_field reading column.nullability word q some none) h.1 in
     (h.0, content, counted reversed transitive s t l u v (cell_in column h.0) fits lower_is upper_is (no_null column.kind word h.0 h.1) valued h.2 is)
 
 pub integer_taken : (k : PType) (column : ColumnType) (word : List ℕ) (l u v : KnownBound) → column.kind ≡ kinds.Integer k → TakesInteger k column.nullability word l u v → TakesWord column word l u v
@@ -144,15 +156,15 @@ text_taken column word l u kind h =
 
 -- ---- a field of which a scalar is made
 
-stands_as : (l : Bool) (column : ColumnType) (f : Field) (x : Scalar) (b : Bool) → IsTaken l column f x b → IsTakenAs l column f (scalar_content x) b × (scalar_type x ≡ column_type column)
+stands_as : (l : Reading) (column : ColumnType) (f : Field) (x : Scalar) (b : Bool) → IsTaken l column f x b → IsTakenAs l column f (scalar_content x) b × (scalar_type x ≡ column_type column)
 stands_as l column f x false h = (h.content, h.typed)
 stands_as l column f x true h = ((h.asked, h.none, h.takes, h.content), h.typed)
 
-pub taken_valid : (l : Bool) (column : ColumnType) (f : Field) (x : Scalar) (b : Bool) → IsTaken l column f x b → IsValid x
+pub taken_valid : (l : Reading) (column : ColumnType) (f : Field) (x : Scalar) (b : Bool) → IsTaken l column f x b → IsValid x
 taken_valid l column f x false h = h.valid
 taken_valid l column f x true h = h.valid
 
-pub cell_observed : (l : Bool) (column : ColumnType) (f : Field) (x : Scalar) (b : Bool) (s t : Known) → IsTaken l column f x b → ObservesCell s (cell_of x) t → ObservesField l column f s t b
+pub cell_observed : (l : Reading) (column : ColumnType) (f : Field) (x : Scalar) (b : Bool) (s t : Known) → IsTaken l column f x b → ObservesCell s (cell_of x) t → ObservesField l column f s t b
 cell_observed l column f x b s t h observes =
     let p = stands_as l column f x b h in
     (scalar_content x, p.0, subst (λ (k : TypeTree). ObservesCell s (record { typed = k; content = scalar_content x }) t) p.1 observes)

@@ -1,6 +1,7 @@
 pub mod Cells
 pub mod Examples
 pub mod Observed
+pub mod Readings
 pub mod Rows
 pub mod Walks
 pub mod Words

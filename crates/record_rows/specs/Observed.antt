@@ -1,15 +1,17 @@
 -- The statistics of columns and one record more.
-use Rattle.std.specs.Prelude.{◌≡◌, ◌⊎◌, ◌+◌, ◌<◌, ◌≤◌, ◌^◌, ℕ, ℤ, List, [], ◌∷◌, Bool, false, true, Contains, Option, Some, IsUtf8, map}
+use Rattle.std.specs.Prelude.{◌≡◌, ◌⊎◌, ◌+◌, ◌<◌, ◌≤◌, ◌^◌, ℕ, ℤ, List, [], ◌∷◌, Bool, false, true, Contains, Option, Some, IsUtf8, length, map, nat_lt}
 use Rattle.std.specs.List.{AllByRecursion}
 use Rattle.std.specs.declared.cmp.Ordering.{Ordering}
 use Rattle.std.specs.declared.cmp.Ordering.TheVariants.{Equal, Less}
 use Rattle.csv_records.specs.Rows.{Field, field_rows, rows_of}
 use Rattle.record_rows.specs.Cells.{HasNoCell, IsContent, Means, column_type}
-use Rattle.record_rows.specs.Rows.{refused_of}
+use Rattle.record_rows.specs.Readings.{Reading}
+use Rattle.record_rows.specs.Rows.{fitted, refused_of}
 use Rattle.record_rows.specs.Words.{IsIntegerWord}
 use Rattle.record_rows.specs.declared.errors.ObserveError.{ObserveError}
 use Rattle.record_rows.specs.declared.errors.ObserveError.TheVariants.{Row, TooManyRows}
 use Rattle.record_rows.specs.declared.errors.RowReadError.{RowReadError}
+use Rattle.record_rows.specs.declared.observing.RowNotes.{RowNotes}
 use Rattle.record_rows.specs.declared.schema.ColumnType.{ColumnType}
 use Rattle.vortex_dtype.specs.TypeTree.{integer_type, utf8_type}
 use Rattle.vortex_dtype.specs.declared.nullability.Nullability.{Nullability}
@@ -27,9 +29,9 @@ use Rattle.vortex_value.specs.Values.RawTree.{RawTree, raw_integer}
 -- ---- the cells of a record
 
 -- the content of a field, or a null in its place, as is asked; the flag tells which
-abbrev pub IsTakenAs : Bool → ColumnType → Field → Content → Bool → Type 0
-IsTakenAs lenient column f c false = IsContent column f c
-IsTakenAs lenient column f c true = (lenient ≡ true) × HasNoCell column f × (column.nullability ≡ Nullable) × (c ≡ null)
+abbrev pub IsTakenAs : Reading → ColumnType → Field → Content → Bool → Type 0
+IsTakenAs reading column f c false = IsContent reading column f c
+IsTakenAs reading column f c true = (reading.is_lenient ≡ true) × HasNoCell reading column f × (column.nullability ≡ Nullable) × (c ≡ null)
 
 -- the cell of a column with this content
 abbrev pub cell_in : ColumnType → Content → Cell
@@ -43,8 +45,8 @@ pub record ObservesCell (s : Known) (x : Cell) (t : Known) : Type 0 where
   pub complete : IsCompleteWith s x t
 
 -- t is what is known of the cells of s and of that of a field
-abbrev pub ObservesField : Bool → ColumnType → Field → Known → Known → Bool → Type 0
-ObservesField lenient column f s t flag = (c : Content) × IsTakenAs lenient column f c flag × ObservesCell s (cell_in column c) t
+abbrev pub ObservesField : Reading → ColumnType → Field → Known → Known → Bool → Type 0
+ObservesField reading column f s t flag = (c : Content) × IsTakenAs reading column f c flag × ObservesCell s (cell_in column c) t
 
 -- the bounds of t are valid if those of s are
 abbrev pub KeepsValid : ColumnStatistics → ColumnStatistics → Type 0
@@ -60,26 +62,31 @@ pub record Step : Type 0 where
   pub new : ColumnStatistics
 
 -- the content is that of the field, and the statistics observe it; their bounds stay valid
-abbrev pub IsStep : Bool → Step → Type 0
-IsStep lenient s = IsTakenAs lenient s.column s.field s.content s.flag × ObservesCell (known s.old) (cell_in s.column s.content) (known s.new) × KeepsValid s.old s.new
+abbrev pub IsStep : Reading → Step → Type 0
+IsStep reading s = IsTakenAs reading s.column s.field s.content s.flag × ObservesCell (known s.old) (cell_in s.column s.content) (known s.new) × KeepsValid s.old s.new
 
 -- these fields are observed, each by the statistics of its column, and so many nulls stand in place of a cell
-pub record AreFieldsObserved (lenient : Bool) (columns : List ColumnType) (fields : List Field) (old new : List ColumnStatistics) (refused : ℕ) : Type 0 where
+pub record AreFieldsObserved (reading : Reading) (columns : List ColumnType) (fields : List Field) (old new : List ColumnStatistics) (refused : ℕ) : Type 0 where
   pub steps : List Step
   pub fields_are : fields ≡ map (λ s. s.field) steps
   pub columns_are : columns ≡ map (λ s. s.column) steps
   pub old_are : old ≡ map (λ s. s.old) steps
   pub new_are : new ≡ map (λ s. s.new) steps
-  pub each : AllByRecursion (IsStep lenient) steps
+  pub each : AllByRecursion (IsStep reading) steps
   pub count : refused ≡ refused_of (map (λ s. s.flag) steps)
 
+-- the fields of a row are observed as they stand in columns, and noted is how many of them their columns do not take, and whether
+-- they are more than columns
+abbrev pub AreNoted : Reading → List ColumnType → List Field → List ColumnStatistics → List ColumnStatistics → RowNotes → Type 0
+AreNoted reading columns fields old new notes = AreFieldsObserved reading columns (fitted reading.is_lenient columns fields) old new notes.refused × (notes.is_longer ≡ nat_lt (length columns) (length fields))
+
 -- the text has one row, which is observed; it begins where a field does
-abbrev pub AreObserved : ℕ → Bool → List ColumnType → List ℕ → List ColumnStatistics → List ColumnStatistics → ℕ → Type 0
-AreObserved delimiter lenient columns bytes old new refused = (fields : List Field) × (field_rows delimiter bytes ≡ fields ∷ []) × AreFieldsObserved lenient columns fields old new refused
+abbrev pub AreObserved : ℕ → Reading → List ColumnType → List ℕ → List ColumnStatistics → List ColumnStatistics → RowNotes → Type 0
+AreObserved delimiter reading columns bytes old new notes = (fields : List Field) × (field_rows delimiter bytes ≡ fields ∷ []) × AreNoted reading columns fields old new notes
 
 -- the record has one row, which is observed
-abbrev pub IsObserved : ℕ → Bool → List ColumnType → List ℕ → List ColumnStatistics → List ColumnStatistics → ℕ → Type 0
-IsObserved delimiter lenient columns line old new refused = (fields : List Field) × (rows_of delimiter line ≡ fields ∷ []) × AreFieldsObserved lenient columns fields old new refused
+abbrev pub IsObserved : ℕ → Reading → List ColumnType → List ℕ → List ColumnStatistics → List ColumnStatistics → RowNotes → Type 0
+IsObserved delimiter reading columns line old new notes = (fields : List Field) × (rows_of delimiter line ≡ fields ∷ []) × AreNoted reading columns fields old new notes
 
 -- ---- refusals
 
@@ -127,8 +134,8 @@ abbrev pub IsTextInside : List ℕ → KnownBound → KnownBound → Type 0
 IsTextInside word lower upper = IsUtf8 word × ((n : Nullability) → let x : Cell = record { typed = utf8_type n; content = text word } in Keeps cell_order lower x × Keeps order_from_above upper x)
 
 -- t is what is known of the cells of s and of that of the word, in quotes or not
-abbrev pub ObservesWord : ColumnType → List ℕ → Known → Known → Type 0
-ObservesWord column word s t = (lenient is_quoted : Bool) → ObservesField lenient column (record { text = word; is_quoted = is_quoted }) s t false
+abbrev pub ObservesWord : Reading → ColumnType → List ℕ → Known → Known → Type 0
+ObservesWord reading column word s t = (is_quoted : Bool) → ObservesField reading column (record { text = word; is_quoted = is_quoted }) s t false
 
 -- the bound is this number of the type
 abbrev pub IsNumberBound : PType → PValue → KnownBound → Type 0

@@ -2,17 +2,21 @@
 
 ghost use Rattle.std.specs.Prelude.{◌≡◌, ℕ, ℤ, List, IfOk, IsUtf8, MatchBool, MatchOption};
 ghost use Rattle.hex.specs.Hex.{decode_of};
+ghost use Rattle.logical_types.specs.Words.{Writes};
 ghost use Rattle.vortex_dtype.specs.declared.nullability.Nullability.TheVariants.{Nullable};
 ghost use Rattle.vortex_value.specs.Values.Content.{null};
 ghost use Rattle.vortex_value.specs.Values.Scalars.{IsValid, scalar_content, scalar_type};
 ghost use Rattle.record_rows.specs.Cells.{HasCell, HasMeaning, HasNoCell, HasNoMeaning, HasNoValue, IsBinaryCell};
-ghost use Rattle.record_rows.specs.Cells.{IsCell, IsIntegerCell, IsTextCell, IsValueCell, column_type, is_null_field};
+ghost use Rattle.record_rows.specs.Cells.{IsBytesCell, IsCell, IsIntegerCell, IsLogicalCell, IsTextCell, IsValueCell, column_type};
+ghost use Rattle.record_rows.specs.Readings.{is_null_field};
 ghost use Rattle.record_rows.specs.Words.{IsIntegerWord};
 
 use crate::ascii::is_text;
-use crate::schema::{ColumnType, Kind, dtype_of};
+use crate::schema::{ColumnType, FieldReading, Kind, dtype_of};
 use crate::words::{integer_of, is_integer};
 use hex::{FromHexError, decode};
+use logical_scalars::scalar_of_word;
+use logical_types::{LogicalType, storage_of_word};
 use std::alloc::{AllocError, Global};
 use vortex_dtype::{ByteBuffer, Nullability, PType};
 use vortex_value::Scalar;
@@ -20,16 +24,17 @@ use vortex_value::Scalar;
 /// The cell that a field is, if its column takes it.
 pub(crate) fn cell_of(
     alloc: Global,
+    reading: &FieldReading,
     column: ColumnType,
     word: &[u8],
     is_quoted: bool,
 ) -> Result<Option<Scalar>, AllocError>
     ensures { IfOk result (λ cell. MatchOption cell
-        (HasNoCell column (record { text = word.now; is_quoted = is_quoted }))
-        (IsCell column (record { text = word.now; is_quoted = is_quoted }))) }
+        (HasNoCell reading.now column (record { text = word.now; is_quoted = is_quoted }))
+        (IsCell reading.now column (record { text = word.now; is_quoted = is_quoted }))) }
 {
-    if is_null(column.nullability, word, is_quoted) {
-        return Ok(Some(null_of(column)));
+    if is_null(reading, column.nullability, word, is_quoted) {
+        return Ok(Some(null_of(alloc, column)?));
     }
     value_of(alloc, column, word)
 }
@@ -37,15 +42,16 @@ pub(crate) fn cell_of(
 /// Whether its column takes a field.
 pub(crate) fn is_taken(
     alloc: Global,
+    reading: &FieldReading,
     column: ColumnType,
     word: &[u8],
     is_quoted: bool,
 ) -> Result<bool, AllocError>
     ensures { IfOk result (λ taken. MatchBool taken
-        (HasCell column (record { text = word.now; is_quoted = is_quoted }))
-        (HasNoCell column (record { text = word.now; is_quoted = is_quoted }))) }
+        (HasCell reading.now column (record { text = word.now; is_quoted = is_quoted }))
+        (HasNoCell reading.now column (record { text = word.now; is_quoted = is_quoted }))) }
 {
-    if is_null(column.nullability, word, is_quoted) {
+    if is_null(reading, column.nullability, word, is_quoted) {
         return Ok(true);
     }
     has_meaning(alloc, column.kind, word)
@@ -59,6 +65,18 @@ fn has_meaning(alloc: Global, kind: Kind, word: &[u8]) -> Result<bool, AllocErro
         Kind::Integer(ptype) => Ok(is_integer(word, ptype)),
         Kind::Utf8 => Ok(is_text(word)),
         Kind::Binary => is_hexadecimal(alloc, word),
+        Kind::Bytes => Ok(true),
+        Kind::Logical(logical) => Ok(is_written(logical, word)),
+    }
+}
+
+/// Whether a word writes a value of a logical type.
+fn is_written(logical: LogicalType, word: &[u8]) -> bool
+    ensures { MatchBool result ((z : ℤ) × Writes logical word.now z) ((z : ℤ) → ¬ (Writes logical word.now z)) }
+{
+    match storage_of_word(logical, word) {
+        Some(_) => true,
+        None => false,
     }
 }
 
@@ -78,23 +96,25 @@ fn is_hexadecimal(alloc: Global, word: &[u8]) -> Result<bool, AllocError>
 }
 
 /// Whether a field is a null.
-fn is_null(nullability: Nullability, word: &[u8], is_quoted: bool) -> bool
-    ensures { result ≡ is_null_field nullability (record { text = word.now; is_quoted = is_quoted }) }
+fn is_null(reading: &FieldReading, nullability: Nullability, word: &[u8], is_quoted: bool) -> bool
+    ensures { result ≡ is_null_field reading.now nullability
+        (record { text = word.now; is_quoted = is_quoted }) }
 {
     match nullability {
-        Nullability::Nullable => word.is_empty() && !is_quoted,
+        Nullability::Nullable => (word.is_empty() || reading.has_null(word)) && !is_quoted,
         Nullability::NonNullable => false,
     }
 }
 
 /// The null of a column that takes one.
-pub(crate) fn null_of(column: ColumnType) -> Scalar
+pub(crate) fn null_of(alloc: Global, column: ColumnType) -> Result<Scalar, AllocError>
     requires { column.nullability ≡ Nullable }
-    ensures typed { scalar_type result ≡ column_type column }
-    ensures content { scalar_content result ≡ null }
-    ensures valid { IsValid result }
+    ensures typed { IfOk result (λ cell. scalar_type cell ≡ column_type column) }
+    ensures content { IfOk result (λ cell. scalar_content cell ≡ null) }
+    ensures valid { IfOk result IsValid }
 {
-    Scalar::null(dtype_of(column))
+    let dtype = dtype_of(alloc, column)?;
+    Ok(Scalar::null(dtype))
 }
 
 /// The cell that a word is, if its column takes it.
@@ -106,6 +126,8 @@ fn value_of(alloc: Global, column: ColumnType, word: &[u8]) -> Result<Option<Sca
         Kind::Integer(ptype) => Ok(integer_cell(ptype, column.nullability, word)),
         Kind::Utf8 => text_cell(alloc, column.nullability, word),
         Kind::Binary => binary_cell(alloc, column.nullability, word),
+        Kind::Bytes => Ok(Some(bytes_cell(alloc, column.nullability, word)?)),
+        Kind::Logical(logical) => logical_cell(alloc, logical, column.nullability, word),
     }
 }
 
@@ -159,5 +181,31 @@ fn binary_cell(
         }
         Err(FromHexError::OutOfMemory) => Err(AllocError),
         Err(_) => Ok(None),
+    }
+}
+
+/// The bytes of a word.
+fn bytes_cell(alloc: Global, nullability: Nullability, word: &[u8]) -> Result<Scalar, AllocError>
+    ensures { IfOk result (IsBytesCell nullability word.now) }
+{
+    let Ok(buffer) = ByteBuffer::from_slice(alloc, word) else {
+        return Err(AllocError);
+    };
+    Ok(Scalar::binary(buffer, nullability))
+}
+
+/// The value of a logical type that a word writes.
+fn logical_cell(
+    alloc: Global,
+    logical: LogicalType,
+    nullability: Nullability,
+    word: &[u8],
+) -> Result<Option<Scalar>, AllocError>
+    ensures { IfOk result (λ cell. MatchOption cell ((z : ℤ) → ¬ (Writes logical word.now z))
+        (IsLogicalCell logical nullability word.now)) }
+{
+    match scalar_of_word(alloc, logical, word, nullability) {
+        Ok(cell) => Ok(cell),
+        Err(_) => Err(AllocError),
     }
 }

@@ -9,7 +9,7 @@ ghost use Rattle.vortex_statistics.specs.Statistics.{known, known_bound};
 ghost use Rattle.vortex_value.specs.Values.Scalars.{IsMadeOf, IsValid};
 
 use crate::ascii::is_text;
-use crate::schema::{ColumnType, Kind};
+use crate::schema::{ColumnType, FieldReading, Kind};
 use crate::words::integer_of;
 use std::cmp::Ordering;
 use vortex_dtype::{DType, Nullability, PType};
@@ -21,18 +21,22 @@ use vortex_value::laws::{order_is_reversed, order_is_transitive};
 /// Observes the cell of a word without a scalar of it, and says whether it did. It tries so with a
 /// value within both bounds, and with an integer above them. Else nothing has changed.
 pub(crate) fn observe_in_place(
+    reading: &FieldReading,
     column: ColumnType,
     word: &[u8],
     statistics: &mut ColumnStatistics,
 ) -> bool
     ensures observed { result ≡ true →
-        ObservesWord column word.now (known statistics.old) (known statistics.new) }
+        ObservesWord reading.now column word.now (known statistics.old) (known statistics.new) }
     ensures valid { KeepsValid statistics.old statistics.new }
     ensures unchanged { result ≡ false → statistics.new ≡ statistics.old }
 {
     order_is_reversed();
     order_is_transitive();
-    if word.is_empty() || !statistics.may_be_value() {
+    if word.is_empty() || reading.has_null(word) {
+        return false;
+    }
+    if !statistics.may_be_value() {
         return false;
     }
     let Some(row_count) = statistics.row_count.checked_add(1) else {
@@ -62,7 +66,8 @@ fn take_word(column: ColumnType, word: &[u8], lower: &Bound, upper: &mut Bound) 
     match column.kind {
         Kind::Integer(ptype) => take_integer(ptype, column.nullability, word, lower, upper),
         Kind::Utf8 => is_text_inside(word, lower, upper),
-        Kind::Binary => false,
+        Kind::Binary | Kind::Bytes => false,
+        Kind::Logical(_) => false,
     }
 }
 

@@ -1,54 +1,83 @@
 //! The fields of a record are observed, each by the statistics of its column.
 
-ghost use Rattle.std.specs.Prelude.{◌≡◌, [], IfErr, IfOk, MatchOption, OnOk, length};
+ghost use Rattle.std.specs.Prelude.{◌≡◌, [], IfErr, IfOk, MatchOption, OnOk, false, length, true};
 ghost use Rattle.csv_records.specs.Rows.{rows_of};
 ghost use Rattle.record_rows.specs.Observed.{AreObserved, IsFull, IsNotObserved, IsObserved, KeepsValid, ObservesField};
 ghost use Rattle.record_rows.specs.Observed.{SomeIsFull};
 ghost use Rattle.record_rows.specs.Rows.{Refuses, RefusesFields, RefusesWord};
 ghost use Rattle.record_rows.specs.Walks.{field_of};
+ghost use Rattle.record_rows.specs.declared.errors.ObserveError.TheVariants.{TooManyRows};
 ghost use Rattle.vortex_statistics.specs.Statistics.{known};
 
 use crate::errors::{ObserveError, RowReadError};
 use crate::fields::{ColumnField, FieldWalk};
 use crate::in_place::observe_in_place;
-use crate::schema::Schema;
+use crate::schema::{FieldReading, Schema};
 use crate::taking::{one_more, take_field};
 use csv_records::row_start;
 use std::alloc::Global;
-use vortex_statistics::{ColumnStatistics, StatisticsError};
+use vortex_statistics::ColumnStatistics;
 use vortex_value::ScalarRef;
+
+/// What is noted of a row.
+#[derive(Clone, Copy, Debug)]
+pub struct RowNotes {
+    /// How many nulls stand in place of fields that their columns do not take.
+    pub refused: usize,
+    /// Whether the record has more fields than columns.
+    pub is_longer: bool,
+}
 
 /// Observes the row of a record, each cell by the statistics of its column; `None` if it has no
 /// row. What they say then, they say of the record too: they are right if they were, and their bounds
 /// are valid scalars if they were.
 ///
-/// `TooManyRows` only if the statistics of a column count as many rows as 64 bits can. After a
-/// refusal some cells may have been observed.
+/// `TooManyRows` of a record with a row exactly if the statistics of a column count as many rows as
+/// 64 bits can, which is tested before its fields are. After another refusal some cells may have been
+/// observed.
 ///
-/// If the schema is lenient, a field that its column does not take is a null if the column takes
-/// nulls. The answer is how many of them there are. The buffer is used again.
+/// If the reading is lenient, a field that its column does not take is a null if the column takes
+/// nulls, and so is one that is missing; fields behind those of the last column are passed over. That is
+/// noted. The buffer is used again.
 pub fn observe_record(
     alloc: Global,
     schema: &Schema,
     line: &[u8],
     buffer: &mut Vec<u8>,
     statistics: &mut [ColumnStatistics],
-) -> Result<Option<usize>, ObserveError>
+) -> Result<Option<RowNotes>, ObserveError>
     requires { length statistics.old ≡ length schema.now.columns.items }
-    ensures observed { IfOk result (λ refused. MatchOption refused
+    ensures observed { IfOk result (λ notes. MatchOption notes
         ((rows_of schema.now.delimiter.byte line.now ≡ []) × (statistics.new ≡ statistics.old))
-        (IsObserved schema.now.delimiter.byte schema.now.is_lenient schema.now.columns.items line.now
+        (IsObserved schema.now.delimiter.byte schema.now.reading schema.now.columns.items line.now
         statistics.old statistics.new)) }
     ensures length { length statistics.new ≡ length statistics.old }
     ensures refused { IfErr result (IsNotObserved (Refuses schema.now.delimiter.byte
-        schema.now.is_lenient schema.now.columns.items line.now) (SomeIsFull statistics.old)) }
+        schema.now.reading schema.now.columns.items line.now) (SomeIsFull statistics.old)) }
+    ensures full { SomeIsFull statistics.old → IfErr result (λ fault. fault ≡ TooManyRows) }
 {
     let start = row_start(line);
     if start.is_empty() {
         return Ok(None);
     }
-    let refused = observe_fields(alloc, schema, start, buffer, statistics)?;
-    Ok(Some(refused))
+    if is_some_full(statistics) {
+        return Err(ObserveError::TooManyRows);
+    }
+    let notes = observe_fields(alloc, schema, start, buffer, statistics)?;
+    Ok(Some(notes))
+}
+
+/// Whether the statistics of some column count as many rows as 64 bits can.
+fn is_some_full(statistics: &[ColumnStatistics]) -> bool
+    ensures full { result ≡ true → SomeIsFull statistics.now }
+    ensures none { result ≡ false → ¬ (SomeIsFull statistics.now) }
+{
+    for column in statistics {
+        if column.row_count == u64::MAX {
+            return true;
+        }
+    }
+    false
 }
 
 /// Observes the fields of a text that begins where a field does.
@@ -58,48 +87,46 @@ fn observe_fields(
     text: &[u8],
     buffer: &mut Vec<u8>,
     statistics: &mut [ColumnStatistics],
-) -> Result<usize, ObserveError>
-    requires { length statistics.old ≡ length schema.now.columns.items }
-    ensures fields { IfOk result (AreObserved schema.now.delimiter.byte schema.now.is_lenient
+) -> Result<RowNotes, RowReadError>
+    requires many { length statistics.old ≡ length schema.now.columns.items }
+    requires few { ¬ (SomeIsFull statistics.old) }
+    ensures fields { IfOk result (AreObserved schema.now.delimiter.byte schema.now.reading
         schema.now.columns.items text.now statistics.old statistics.new) }
     ensures length { length statistics.new ≡ length statistics.old }
-    ensures refused { IfErr result (IsNotObserved (RefusesFields schema.now.delimiter.byte
-        schema.now.is_lenient schema.now.columns.items text.now) (SomeIsFull statistics.old)) }
+    ensures refused { IfErr result (RefusesFields schema.now.delimiter.byte schema.now.reading
+        schema.now.columns.items text.now) }
 {
     let mut refused = 0;
     let mut walk = FieldWalk::of(schema, text);
     while let Some(field) = walk.next_field(buffer)? {
-        let flag = observe_field(
-            alloc,
-            schema.is_lenient,
-            &field,
-            &mut statistics[field.place],
-        )?;
+        let flag = observe_field(alloc, &schema.reading, &field, &mut statistics[field.place])?;
         refused = one_more(refused, flag);
     }
-    Ok(refused)
+    Ok(RowNotes {
+        refused,
+        is_longer: walk.is_longer,
+    })
 }
 
 /// Observes the cell of a field, and says whether a null stands in its place.
 fn observe_field(
     alloc: Global,
-    is_lenient: bool,
+    reading: &FieldReading,
     field: &ColumnField<'_>,
     statistics: &mut ColumnStatistics,
-) -> Result<bool, ObserveError>
-    ensures observed { IfOk result (ObservesField is_lenient field.now.column (field_of field.now)
+) -> Result<bool, RowReadError>
+    requires { ¬ (IsFull statistics.old) }
+    ensures observed { IfOk result (ObservesField reading.now field.now.column (field_of field.now)
         (known statistics.old) (known statistics.new)) }
     ensures valid { OnOk result (KeepsValid statistics.old statistics.new) }
-    ensures refused { IfErr result (IsNotObserved (RefusesWord is_lenient field.now.column
-        field.now.place (field_of field.now)) (IsFull statistics.old)) }
+    ensures refused { IfErr result (RefusesWord reading.now field.now.column field.now.place (field_of field.now)) }
 {
-    if observe_in_place(field.column, field.word, statistics) {
+    if observe_in_place(reading, field.column, field.word, statistics) {
         return Ok(false);
     }
-    let (cell, flag) = take_field(alloc, is_lenient, field)?;
+    let (cell, flag) = take_field(alloc, reading, field)?;
     match statistics.observe(alloc, ScalarRef::of(&cell)) {
         Ok(()) => Ok(flag),
-        Err(StatisticsError::TooManyRows) => Err(ObserveError::TooManyRows),
-        Err(_) => Err(ObserveError::Row(RowReadError::Memory)),
+        Err(_) => Err(RowReadError::Memory),
     }
 }

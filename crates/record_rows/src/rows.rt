@@ -8,7 +8,7 @@ ghost use Rattle.record_rows.specs.Walks.{field_of};
 
 use crate::errors::RowReadError;
 use crate::fields::{ColumnField, FieldWalk};
-use crate::schema::Schema;
+use crate::schema::{FieldReading, Schema};
 use crate::taking::{one_more, take_field, test_field};
 use csv_records::row_start;
 use std::alloc::{AllocFailed, Global};
@@ -17,8 +17,9 @@ use vortex_value::Scalar;
 
 /// Reads the row of a record; `None` if it has no row, as an empty line.
 ///
-/// If the schema is lenient, a field that its column does not take is a null if the column takes
-/// nulls. The answer is how many of them there are.
+/// If the reading is lenient, a field that its column does not take is a null if the column takes
+/// nulls, and so is one that is missing; fields behind those of the last column are passed over. The
+/// answer is how many are not taken.
 pub fn read_row(
     alloc: Global,
     schema: &Schema,
@@ -27,9 +28,9 @@ pub fn read_row(
 ) -> Result<Option<usize>, RowReadError>
     ensures row { IfOk result (λ refused. MatchOption refused
         (rows_of schema.now.delimiter.byte line.now ≡ [])
-        (IsRow schema.now.delimiter.byte schema.now.is_lenient schema.now.columns.items line.now row.new.items)) }
+        (IsRow schema.now.delimiter.byte schema.now.reading schema.now.columns.items line.now row.new.items)) }
     ensures refused { IfErr result
-        (Refuses schema.now.delimiter.byte schema.now.is_lenient schema.now.columns.items line.now) }
+        (Refuses schema.now.delimiter.byte schema.now.reading schema.now.columns.items line.now) }
 {
     row.clear();
     read_cells(alloc, schema, &[], line, row)
@@ -48,10 +49,10 @@ pub fn read_cells(
 ) -> Result<Option<usize>, RowReadError>
     ensures row { IfOk result (λ refused. MatchOption refused
         (rows_of schema.now.delimiter.byte line.now ≡ [])
-        (IsRowIn wanted.now schema.now.delimiter.byte schema.now.is_lenient schema.now.columns.items
+        (IsRowIn wanted.now schema.now.delimiter.byte schema.now.reading schema.now.columns.items
         line.now row.new.items)) }
     ensures refused { IfErr result
-        (Refuses schema.now.delimiter.byte schema.now.is_lenient schema.now.columns.items line.now) }
+        (Refuses schema.now.delimiter.byte schema.now.reading schema.now.columns.items line.now) }
 {
     let start = row_start(line);
     if start.is_empty() {
@@ -71,9 +72,9 @@ fn read_fields(
     row: &mut Vec<Scalar>,
 ) -> Result<usize, RowReadError>
     requires { length row.old.items ≤ length schema.now.columns.items }
-    ensures fields { IfOk result (HasFields wanted.now schema.now.delimiter.byte schema.now.is_lenient
+    ensures fields { IfOk result (HasFields wanted.now schema.now.delimiter.byte schema.now.reading
         schema.now.columns.items text.now row.new.items) }
-    ensures refused { IfErr result (RefusesFields schema.now.delimiter.byte schema.now.is_lenient
+    ensures refused { IfErr result (RefusesFields schema.now.delimiter.byte schema.now.reading
         schema.now.columns.items text.now) }
 {
     let mut refused = 0;
@@ -81,7 +82,7 @@ fn read_fields(
     let mut walk = FieldWalk::of(schema, text);
     while let Some(field) = walk.next_field(&mut buffer)? {
         let keeps = is_wanted(wanted, field.place);
-        let flag = put_cell(alloc, schema.is_lenient, &field, keeps, row)?;
+        let flag = put_cell(alloc, &schema.reading, &field, keeps, row)?;
         refused = one_more(refused, flag);
     }
     Ok(refused)
@@ -102,23 +103,23 @@ fn is_wanted(wanted: &[bool], place: usize) -> bool
 /// instead. Else any scalar stands there, as one of an earlier record.
 fn put_cell(
     alloc: Global,
-    is_lenient: bool,
+    reading: &FieldReading,
     field: &ColumnField<'_>,
     keeps: bool,
     row: &mut Vec<Scalar>,
 ) -> Result<bool, RowReadError>
     requires { field.now.place ≤ length row.old.items }
-    ensures cell { IfOk result (PushesCell keeps is_lenient field.now.column (field_of field.now)
+    ensures cell { IfOk result (PushesCell keeps reading.now field.now.column (field_of field.now)
         (take field.now.place row.old.items) (take (field.now.place + 1) row.new.items)) }
     ensures reaches { OnOk result (ReachesPast field.now.place row.old.items row.new.items) }
-    ensures refused { IfErr result (RefusesWord is_lenient field.now.column field.now.place (field_of field.now)) }
+    ensures refused { IfErr result (RefusesWord reading.now field.now.column field.now.place (field_of field.now)) }
 {
     if keeps {
-        let (cell, flag) = take_field(alloc, is_lenient, field)?;
+        let (cell, flag) = take_field(alloc, reading, field)?;
         put_at(row, field.place, cell)?;
         Ok(flag)
     } else {
-        let flag = test_field(alloc, is_lenient, field)?;
+        let flag = test_field(alloc, reading, field)?;
         fill_at(row, field.place)?;
         Ok(flag)
     }

@@ -8,7 +8,7 @@ ghost use Rattle.record_rows.specs.Walks.{field_of};
 use crate::cells::{cell_of, is_taken, null_of};
 use crate::errors::RowReadError;
 use crate::fields::ColumnField;
-use crate::schema::ColumnType;
+use crate::schema::{ColumnType, FieldReading};
 use std::alloc::Global;
 use vortex_dtype::Nullability;
 use vortex_value::Scalar;
@@ -17,20 +17,21 @@ use vortex_value::Scalar;
 #[inline(always)]
 pub(crate) fn take_field(
     alloc: Global,
-    is_lenient: bool,
+    reading: &FieldReading,
     field: &ColumnField<'_>,
 ) -> Result<(Scalar, bool), RowReadError>
     ensures taken { IfOk result (λ taken.
-        IsTaken is_lenient field.now.column (field_of field.now) taken.0 taken.1) }
-    ensures refused { IfErr result (RefusesWord is_lenient field.now.column field.now.place (field_of field.now)) }
+        IsTaken reading.now field.now.column (field_of field.now) taken.0 taken.1) }
+    ensures refused { IfErr result (RefusesWord reading.now field.now.column field.now.place (field_of field.now)) }
 {
-    match cell_of(alloc, field.column, field.word, field.is_quoted)? {
+    match cell_of(alloc, reading, field.column, field.word, field.is_quoted)? {
         Some(cell) => Ok((cell, false)),
         None => {
-            if !may_be_null(is_lenient, field.column) {
+            if !may_be_null(reading, field.column) {
                 return Err(word_fault(alloc, field));
             }
-            Ok((null_of(field.column), true))
+            let null = null_of(alloc, field.column)?;
+            Ok((null, true))
         }
     }
 }
@@ -38,15 +39,15 @@ pub(crate) fn take_field(
 /// Whether a null is to stand in place of the cell of a field.
 pub(crate) fn test_field(
     alloc: Global,
-    is_lenient: bool,
+    reading: &FieldReading,
     field: &ColumnField<'_>,
 ) -> Result<bool, RowReadError>
-    ensures tested { IfOk result (IsTested is_lenient field.now.column (field_of field.now)) }
-    ensures refused { IfErr result (RefusesWord is_lenient field.now.column field.now.place (field_of field.now)) }
+    ensures tested { IfOk result (IsTested reading.now field.now.column (field_of field.now)) }
+    ensures refused { IfErr result (RefusesWord reading.now field.now.column field.now.place (field_of field.now)) }
 {
-    if is_taken(alloc, field.column, field.word, field.is_quoted)? {
+    if is_taken(alloc, reading, field.column, field.word, field.is_quoted)? {
         Ok(false)
-    } else if may_be_null(is_lenient, field.column) {
+    } else if may_be_null(reading, field.column) {
         Ok(true)
     } else {
         Err(word_fault(alloc, field))
@@ -54,13 +55,13 @@ pub(crate) fn test_field(
 }
 
 /// Whether a null may stand in place of a cell.
-fn may_be_null(is_lenient: bool, column: ColumnType) -> bool
-    ensures asked { result ≡ true → is_lenient ≡ true }
+fn may_be_null(reading: &FieldReading, column: ColumnType) -> bool
+    ensures asked { result ≡ true → reading.now.is_lenient ≡ true }
     ensures takes { result ≡ true → column.nullability ≡ Nullable }
-    ensures strict { result ≡ false → IsStrict is_lenient column }
+    ensures strict { result ≡ false → IsStrict reading.now column }
 {
     match column.nullability {
-        Nullability::Nullable => is_lenient,
+        Nullability::Nullable => reading.is_lenient(),
         Nullability::NonNullable => false,
     }
 }

@@ -1,25 +1,32 @@
 //! Texts of many records: their records and rows, and where one may be cut.
 
-ghost use Rattle.std.specs.Prelude.{◌≡◌, ◌<◌, ◌≤◌, ◌↔◌, ◌++◌, IfOk, MatchBool, drop, length, map, take, true};
+ghost use Rattle.std.specs.Prelude.{◌≡◌, ◌<◌, ◌≤◌, ◌⊎◌, ◌↔◌, ◌++◌, IfErr, IfOk, MatchBool, drop, length, map, take, true};
 ghost use Rattle.std.specs.List.{concat};
-ghost use Rattle.csv.specs.Reading.{strip_bom};
+ghost use Rattle.csv.specs.Reading.{is_io, strip_bom};
 ghost use Rattle.csv.specs.Records.{fields_of};
+ghost use Rattle.csv.specs.declared.error.ErrorKind.TheVariants.{OutOfMemory};
 ghost use Rattle.csv.specs.declared.parser.State.TheVariants.{StartRecord};
 ghost use Rattle.csv_records.specs.Laws.{texts_of};
 ghost use Rattle.csv_records.specs.Records.{records_of};
 ghost use Rattle.csv_records.specs.Rows.{field_rows, rows_of, state_after};
 
-use csv::{ByteRecord, Error, ReaderBuilder};
+use csv::{ByteRecord, ErrorKind, ReaderBuilder};
 use csv_records::laws::{records_are_parts, rows_are_cut, rows_are_read};
 use csv_records::{
     Delimiter, Follows, RecordState, cut_field, cut_record, row_start, state_after_line,
 };
 use std::alloc::{AllocError, Global};
 
-/// The rows of a text, as `csv` reads them: after a byte order mark, if it begins with one.
-pub fn csv_rows(alloc: Global, delimiter: Delimiter, text: &[u8]) -> Result<Vec<ByteRecord>, Error>
-    ensures { IfOk result (λ rows. map fields_of rows.items ≡
+/// The rows of a text, as `csv` reads them: after a byte order mark, if it begins with one. A text is
+/// refused only for want of memory, whatever its rows are; `csv` has another error for readers that fail.
+pub fn csv_rows(
+    alloc: Global,
+    delimiter: Delimiter,
+    text: &[u8],
+) -> Result<Vec<ByteRecord>, ErrorKind>
+    ensures rows { IfOk result (λ rows. map fields_of rows.items ≡
         map texts_of (rows_of delimiter.byte (strip_bom text.now))) }
+    ensures refused { IfErr result (λ error. (error ≡ OutOfMemory) ⊎ (is_io error ≡ true)) }
 {
     rows_are_read();
     let reader = ReaderBuilder::new()
@@ -29,8 +36,13 @@ pub fn csv_rows(alloc: Global, delimiter: Delimiter, text: &[u8]) -> Result<Vec<
         .from_reader(alloc, text);
     let mut rows = Vec::new(alloc);
     for row in reader.into_byte_records() {
-        if rows.push(row?).is_err() {
-            return Err(Error::out_of_memory());
+        match row {
+            Ok(row) => {
+                if rows.push(row).is_err() {
+                    return Err(ErrorKind::OutOfMemory);
+                }
+            }
+            Err(error) => return Err(error.into_kind()),
         }
     }
     Ok(rows)
@@ -84,18 +96,22 @@ pub fn is_whole_record(alloc: Global, delimiter: Delimiter, line: &[u8]) -> Resu
     if start.is_empty() {
         return Ok(true);
     }
-    is_only_row(alloc, delimiter, start)
+    is_only_row(delimiter, start, &mut Vec::new(alloc))
 }
 
-/// Whether a text has one row. It begins where a field does.
-fn is_only_row(alloc: Global, delimiter: Delimiter, text: &[u8]) -> Result<bool, AllocError>
+/// Whether a text has one row. It begins where a field does. The buffer takes the bytes of fields in
+/// quotes.
+pub(crate) fn is_only_row(
+    delimiter: Delimiter,
+    text: &[u8],
+    buffer: &mut Vec<u8>,
+) -> Result<bool, AllocError>
     ensures { IfOk result (λ only. MatchBool only
         (length (field_rows delimiter.byte text.now) ≡ 1) (1 < length (field_rows delimiter.byte text.now))) }
 {
     let mut rest = text;
-    let mut buffer = Vec::new(alloc);
     while !rest.is_empty() {
-        let cut = cut_field(delimiter, rest, &mut buffer)?;
+        let cut = cut_field(delimiter, rest, buffer)?;
         match cut.follows {
             Follows::Another(next) => rest = next,
             Follows::Nothing => return Ok(true),

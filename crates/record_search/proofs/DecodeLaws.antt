@@ -4,11 +4,15 @@ use Rattle.std.specs.Str.{bytes_eq, is_utf8}
 use Rattle.std.proofs.lemmas.Bool.{and_from, and_parts, ltb-true, lt-ltb}
 use Rattle.std.proofs.lemmas.Slice.Eq.{bytes_eq-Decides}
 use Rattle.std.proofs.lemmas.Str.{IsUtf8-from_is_utf8, is_utf8-from_IsUtf8}
+use Rattle.logical_scalars.specs.Stored.{storage_tree}
+use Rattle.logical_types.specs.Extensions.{id_of, metadata_of, storage_type_of}
+use Rattle.logical_types.specs.declared.extensions.StorageType.{StorageType}
+use Rattle.logical_types.specs.declared.extensions.StorageType.TheVariants as stores
 use Rattle.record_rows.specs.Cells.{column_type, type_by}
 use Rattle.record_rows.specs.declared.schema.ColumnType.{ColumnType}
 use Rattle.record_rows.specs.declared.schema.Kind.{Kind}
 use Rattle.record_rows.specs.declared.schema.Kind.TheVariants as kinds
-use Rattle.vortex_dtype.specs.TypeTree.{TypeTree}
+use Rattle.vortex_dtype.specs.TypeTree.{TypeTree, extension_type}
 use Rattle.vortex_dtype.specs.declared.nullability.Nullability.{Nullability}
 use Rattle.vortex_dtype.specs.declared.nullability.Nullability.TheVariants.{NonNullable, Nullable}
 use Rattle.vortex_dtype.specs.declared.ptype.PType.{PType}
@@ -25,9 +29,9 @@ use Rattle.vortex_statistics.specs.Statistics.{Known, KnownBound}
 use Rattle.vortex_statistics.specs.declared.error.StatisticsError.{StatisticsError}
 use Rattle.vortex_statistics.specs.declared.error.StatisticsError.TheVariants.{OutOfMemory}
 use Rattle.vortex_value.specs.TypesWithin.{HasNoVariant}
-use Rattle.vortex_value.specs.Values.Content.{Content, content, null, string, text, whole}
-use Rattle.vortex_value.specs.Values.RawTree.{RawTree, absent, raw_bytes, raw_integer, raw_text}
-use Rattle.record_search.specs.Decoding.{are_bytes, are_of, bound_in, count_fits, has_bound, has_content, encoded_in, said_by, statistics_in}
+use Rattle.vortex_value.specs.Values.Content.{Content, content, null, sequence, string, tagged, text, truth, typed as of_type, whole}
+use Rattle.vortex_value.specs.Values.RawTree.{RawTree, absent, raw_bool, raw_bytes, raw_integer, raw_text, raw_tuple, raw_union, raw_variant}
+use Rattle.record_search.specs.Decoding.{are_bytes, are_of, bound_in, count_fits, has_bound, has_content, has_stored, encoded_in, said_by, statistics_in}
 use Rattle.record_search.specs.Laws.{PiecesAreRead}
 use Rattle.record_search.proofs.Decoded.{IsFlat, IsFlatBound, IsFlatKnown, said_encoding}
 
@@ -67,10 +71,53 @@ pub record IsValue (t : TypeTree) (c : Content) : Type 0 where
   pub is_value : IsValueOf t value
   pub is : c ≡ content value
 
+-- values of an extension over a storage
+stored_null : (id metadata : List ℕ) (k : StorageType) → IsValue (extension_type id metadata (storage_tree k Nullable)) null
+stored_null id metadata stores.I32 = record { value = absent; is_value = record { valid = refl; held = tt }; is = refl }
+stored_null id metadata stores.I64 = record { value = absent; is_value = record { valid = refl; held = tt }; is = refl }
+stored_null id metadata stores.Bytes = record { value = absent; is_value = record { valid = refl; held = tt }; is = refl }
+
+stored_value : (id metadata : List ℕ) (k : StorageType) (n : Nullability) (c : Content) → has_stored k c ≡ true → IsValue (extension_type id metadata (storage_tree k n)) c
+stored_value id metadata stores.I32 n (whole z) h = record { value = raw_integer I32 z; is_value = record { valid = (refl, in_range_back I32 z h); held = whole_held I32 z h }; is = refl }
+stored_value id metadata stores.I64 n (whole z) h = record { value = raw_integer I64 z; is_value = record { valid = (refl, in_range_back I64 z h); held = whole_held I64 z h }; is = refl }
+stored_value id metadata stores.Bytes n (string bs) h = record { value = raw_bytes bs; is_value = record { valid = tt; held = bytes_from bs h }; is = refl }
+stored_value id metadata stores.I32 n _ h = absurd cc
+stored_value id metadata stores.I64 n _ h = absurd cc
+stored_value id metadata stores.Bytes n _ h = absurd cc
+
+null_stored : (id metadata : List ℕ) (k : StorageType) (n : Nullability) → IsValueOf (extension_type id metadata (storage_tree k n)) absent → n ≡ Nullable
+null_stored id metadata stores.I32 n h = h.valid
+null_stored id metadata stores.I64 n h = h.valid
+null_stored id metadata stores.Bytes n h = h.valid
+
+value_stored : (id metadata : List ℕ) (k : StorageType) (n : Nullability) (v : RawTree) → (v ≡ absent → ⊥) → IsValueOf (extension_type id metadata (storage_tree k n)) v → has_stored k (content v) ≡ true
+value_stored id metadata k n absent some h = absurd (some refl)
+value_stored id metadata stores.I32 n (raw_integer p z) some h = in_range_true I32 z h.valid.1
+value_stored id metadata stores.I64 n (raw_integer p z) some h = in_range_true I64 z h.valid.1
+value_stored id metadata stores.Bytes n (raw_bytes bs) some h = bytes_to bs h.held
+value_stored id metadata stores.I32 n _ some h = absurd h.valid
+value_stored id metadata stores.I64 n _ some h = absurd h.valid
+value_stored id metadata stores.Bytes n _ some h = absurd h.valid
+
+flat_stored : (k : StorageType) (c : Content) → has_stored k c ≡ true → IsFlat c
+flat_stored stores.I32 (whole z) h = whole_held I32 z h
+flat_stored stores.I64 (whole z) h = whole_held I64 z h
+flat_stored stores.Bytes (string bs) h = tt
+flat_stored stores.I32 _ h = absurd cc
+flat_stored stores.I64 _ h = absurd cc
+flat_stored stores.Bytes _ h = absurd cc
+
+stored_variant : (id metadata : List ℕ) (k : StorageType) (n : Nullability) → HasNoVariant (extension_type id metadata (storage_tree k n))
+stored_variant id metadata stores.I32 n = tt
+stored_variant id metadata stores.I64 n = tt
+stored_variant id metadata stores.Bytes n = tt
+
 a_null : (kind : Kind) → IsValue (type_by kind Nullable) null
 a_null (kinds.Integer k) = record { value = absent; is_value = record { valid = refl; held = tt }; is = refl }
 a_null kinds.Utf8 = record { value = absent; is_value = record { valid = refl; held = tt }; is = refl }
 a_null kinds.Binary = record { value = absent; is_value = record { valid = refl; held = tt }; is = refl }
+a_null kinds.Bytes = record { value = absent; is_value = record { valid = refl; held = tt }; is = refl }
+a_null (kinds.Logical l) = stored_null (id_of l) (metadata_of l) (storage_type_of l)
 
 a_number : (k : PType) (n : Nullability) (z : ℤ) → in_range k z ≡ true → IsValue (type_by (kinds.Integer k) n) (whole z)
 a_number k n z h = record { value = raw_integer k z; is_value = record { valid = (refl, in_range_back k z h); held = whole_held k z h }; is = refl }
@@ -89,15 +136,26 @@ content_value kind NonNullable null h = absurd cc
 content_value (kinds.Integer k) n (whole z) h = a_number k n z h
 content_value kinds.Utf8 n (whole z) h = absurd cc
 content_value kinds.Binary n (whole z) h = absurd cc
+content_value kinds.Bytes n (whole z) h = absurd cc
 content_value (kinds.Integer k) n (text bs) h = absurd cc
 content_value kinds.Utf8 n (text bs) h = a_text n bs h
 content_value kinds.Binary n (text bs) h = absurd cc
+content_value kinds.Bytes n (text bs) h = absurd cc
 content_value (kinds.Integer k) n (string bs) h = absurd cc
 content_value kinds.Utf8 n (string bs) h = absurd cc
 content_value kinds.Binary n (string bs) h = a_string n bs h
+content_value kinds.Bytes n (string bs) h = a_string n bs h
 content_value (kinds.Integer k) n _ h = absurd cc
 content_value kinds.Utf8 n _ h = absurd cc
 content_value kinds.Binary n _ h = absurd cc
+content_value kinds.Bytes n _ h = absurd cc
+content_value (kinds.Logical l) n (truth b) h = stored_value (id_of l) (metadata_of l) (storage_type_of l) n (truth b) h
+content_value (kinds.Logical l) n (whole z) h = stored_value (id_of l) (metadata_of l) (storage_type_of l) n (whole z) h
+content_value (kinds.Logical l) n (text bs) h = stored_value (id_of l) (metadata_of l) (storage_type_of l) n (text bs) h
+content_value (kinds.Logical l) n (string bs) h = stored_value (id_of l) (metadata_of l) (storage_type_of l) n (string bs) h
+content_value (kinds.Logical l) n (sequence cs) h = stored_value (id_of l) (metadata_of l) (storage_type_of l) n (sequence cs) h
+content_value (kinds.Logical l) n (tagged i c) h = stored_value (id_of l) (metadata_of l) (storage_type_of l) n (tagged i c) h
+content_value (kinds.Logical l) n (of_type t c) h = stored_value (id_of l) (metadata_of l) (storage_type_of l) n (of_type t c) h
 
 null_has : (kind : Kind) (n : Nullability) → n ≡ Nullable → has_content kind n null ≡ true
 null_has kind Nullable e = refl
@@ -107,28 +165,48 @@ value_content : (kind : Kind) (n : Nullability) (v : RawTree) → IsValueOf (typ
 value_content (kinds.Integer k) n absent h = null_has (kinds.Integer k) n h.valid
 value_content kinds.Utf8 n absent h = null_has kinds.Utf8 n h.valid
 value_content kinds.Binary n absent h = null_has kinds.Binary n h.valid
+value_content kinds.Bytes n absent h = null_has kinds.Bytes n h.valid
 value_content (kinds.Integer k) n (raw_integer l z) h = in_range_true k z h.valid.1
 value_content (kinds.Integer k) n _ h = absurd h.valid
 value_content kinds.Utf8 n (raw_text bs) h = and_from (is_utf8 bs) (are_bytes bs) (is_utf8-from_IsUtf8 bs h.held.1) (bytes_to bs h.held.0)
 value_content kinds.Utf8 n _ h = absurd h.valid
 value_content kinds.Binary n (raw_bytes bs) h = bytes_to bs h.held
 value_content kinds.Binary n _ h = absurd h.valid
+value_content kinds.Bytes n (raw_bytes bs) h = bytes_to bs h.held
+value_content kinds.Bytes n _ h = absurd h.valid
+value_content (kinds.Logical l) n absent h = null_has (kinds.Logical l) n (null_stored (id_of l) (metadata_of l) (storage_type_of l) n h)
+value_content (kinds.Logical l) n (raw_bool b) h = value_stored (id_of l) (metadata_of l) (storage_type_of l) n (raw_bool b) (λ e. cc) h
+value_content (kinds.Logical l) n (raw_integer p z) h = value_stored (id_of l) (metadata_of l) (storage_type_of l) n (raw_integer p z) (λ e. cc) h
+value_content (kinds.Logical l) n (raw_text bs) h = value_stored (id_of l) (metadata_of l) (storage_type_of l) n (raw_text bs) (λ e. cc) h
+value_content (kinds.Logical l) n (raw_bytes bs) h = value_stored (id_of l) (metadata_of l) (storage_type_of l) n (raw_bytes bs) (λ e. cc) h
+value_content (kinds.Logical l) n (raw_tuple vs) h = value_stored (id_of l) (metadata_of l) (storage_type_of l) n (raw_tuple vs) (λ e. cc) h
+value_content (kinds.Logical l) n (raw_union i v) h = value_stored (id_of l) (metadata_of l) (storage_type_of l) n (raw_union i v) (λ e. cc) h
+value_content (kinds.Logical l) n (raw_variant t v) h = value_stored (id_of l) (metadata_of l) (storage_type_of l) n (raw_variant t v) (λ e. cc) h
 
 no_variant : (kind : Kind) (n : Nullability) → HasNoVariant (type_by kind n)
 no_variant (kinds.Integer k) n = tt
 no_variant kinds.Utf8 n = tt
 no_variant kinds.Binary n = tt
+no_variant kinds.Bytes n = tt
+no_variant (kinds.Logical l) n = stored_variant (id_of l) (metadata_of l) (storage_type_of l) n
 
 flat_content : (kind : Kind) (n : Nullability) (c : Content) → has_content kind n c ≡ true → IsFlat c
 flat_content kind n null h = tt
 flat_content (kinds.Integer k) n (whole z) h = whole_held k z h
 flat_content kinds.Utf8 n (whole z) h = absurd cc
 flat_content kinds.Binary n (whole z) h = absurd cc
+flat_content kinds.Bytes n (whole z) h = absurd cc
+flat_content (kinds.Logical l) n (whole z) h = flat_stored (storage_type_of l) (whole z) h
+flat_content (kinds.Logical l) n (truth b) h = flat_stored (storage_type_of l) (truth b) h
+flat_content (kinds.Logical l) n (sequence cs) h = flat_stored (storage_type_of l) (sequence cs) h
+flat_content (kinds.Logical l) n (tagged i c) h = flat_stored (storage_type_of l) (tagged i c) h
+flat_content (kinds.Logical l) n (of_type t c) h = flat_stored (storage_type_of l) (of_type t c) h
 flat_content kind n (text bs) h = tt
 flat_content kind n (string bs) h = tt
 flat_content (kinds.Integer k) n _ h = absurd cc
 flat_content kinds.Utf8 n _ h = absurd cc
 flat_content kinds.Binary n _ h = absurd cc
+flat_content kinds.Bytes n _ h = absurd cc
 
 -- ---- bounds
 

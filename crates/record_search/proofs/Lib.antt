@@ -1,3 +1,4 @@
+pub mod Cutting
 pub mod DecodeLaws
 pub mod Decoded
 pub mod DescribeLaws

@@ -1,7 +1,8 @@
 -- What a formula says of a row depends on the columns alone that it names.
 use Rattle.std.proofs.Common.{◌≡◌, ℕ, zero, suc, ◌+◌, List, [], ◌∷◌, Bool, true, false, Option, None, Some, refl, sym, ap, ap₂, ◌∙◌, subst, map, arith, set}
-use Rattle.record_rows.specs.Cells.{column_type, is_null_field}
-use Rattle.record_rows.specs.Rows.{AreCellsIn, IsRowIn, IsTakenIf, is_wanted}
+use Rattle.record_rows.specs.Cells.{column_type}
+use Rattle.record_rows.specs.Readings.{Reading, is_null_field}
+use Rattle.record_rows.specs.Rows.{AreCellsIn, IsRowIn, IsTakenIf, fitted, is_wanted}
 use Rattle.record_rows.specs.declared.schema.ColumnType.{ColumnType}
 use Rattle.csv_records.specs.Rows.{Field}
 use Rattle.vortex_filter.specs.Formula.{Formula, both, cell_at, compare_truth, comparison, constant, either, member_truth, membership, negation, null_test, null_truth, prefix_test, range, range_truth, truth}
@@ -15,7 +16,7 @@ use Rattle.record_search.specs.Contents.{cells_of, field_content, only_row, row_
 use Rattle.vortex_filter.specs.Named.{with_columns}
 use Rattle.record_search.specs.Named.{AgreeAsRows, AgreeIn}
 use Rattle.record_search.specs.Searched.{matches_row}
-use Rattle.record_search.proofs.RowLaws.{cell_made, cell_field, null_field, taken_field}
+use Rattle.record_search.proofs.RowLaws.{WordsSay, cell_field, cell_made, null_field, taken_field}
 
 -- ---- flags
 
@@ -65,35 +66,35 @@ same_match f flags (Some xs) (Some ys) h = ap is_true (same_truth f flags xs ys 
 -- ---- rows of which some cells are wanted
 
 -- the field is one that the column takes, and its cell is this one where it is wanted
-record IsReadAs (w : Bool) (l : Bool) (column : ColumnType) (f : Field) (x : Scalar) : Type 0 where
+record IsReadAs (w : Bool) (l : Reading) (column : ColumnType) (f : Field) (x : Scalar) : Type 0 where
   content : Content
   is : field_content l column f ≡ Some content
   cell : w ≡ true → cell_of x ≡ record { typed = column_type column; content = content }
 
-taken_as : (w : Bool) (l : Bool) (column : ColumnType) (f : Field) (x : Scalar) (b : Bool) → IsTakenIf w l column f x b → IsReadAs w l column f x
-taken_as true l column f x b h =
-    let one = taken_field l column f x b h in
+taken_as : WordsSay → (w : Bool) (l : Reading) (column : ColumnType) (f : Field) (x : Scalar) (b : Bool) → IsTakenIf w l column f x b → IsReadAs w l column f x
+taken_as say true l column f x b h =
+    let one = taken_field say l column f x b h in
     record { content = scalar_content x; is = one.content; cell = λ e. cell_made column x one.typed }
-taken_as false l column f x false h = record { content = h.0; is = cell_field l column f h.0 (is_null_field column.nullability f) refl h.1; cell = λ e. absurd cc }
-taken_as false l column f x true h = record { content = null; is = null_field l column f (is_null_field column.nullability f) refl h.0 h.2 h.1; cell = λ e. absurd cc }
+taken_as say false l column f x false h = record { content = h.0; is = cell_field say l column f h.0 (is_null_field l column.nullability f) refl h.1; cell = λ e. absurd cc }
+taken_as say false l column f x true h = record { content = null; is = null_field say l column f (is_null_field l column.nullability f) refl h.0 h.2 h.1; cell = λ e. absurd cc }
 
 -- the cells from column k on are computed, and are these where they are wanted
-record AreReadAs (w : List Bool) (k : ℕ) (l : Bool) (cs : List ColumnType) (fs : List Field) (xs : List Scalar) : Type 0 where
+record AreReadAs (w : List Bool) (k : ℕ) (l : Reading) (cs : List ColumnType) (fs : List Field) (xs : List Scalar) : Type 0 where
   cells : List Cell
   is : cells_of l cs fs ≡ Some cells
   agree : (i j : ℕ) → j ≡ k + i → is_wanted w j ≡ true → cell_at (map cell_of xs) i ≡ cell_at cells i
 
-read_as : (w : List Bool) (k : ℕ) (l : Bool) (cs : List ColumnType) (fs : List Field) (xs : List Scalar) (bs : List Bool) → AreCellsIn w k l cs fs xs bs → AreReadAs w k l cs fs xs
-read_as w k l [] [] [] [] h = record { cells = []; is = refl; agree = λ i j e t. refl }
-read_as w k l [] [] [] (b ∷ bs) h = absurd h
-read_as w k l [] [] (x ∷ xs) bs h = absurd h
-read_as w k l [] (f ∷ fs) xs bs h = absurd h
-read_as w k l (c ∷ cs) [] xs bs h = absurd h
-read_as w k l (c ∷ cs) (f ∷ fs) [] bs h = absurd h
-read_as w k l (c ∷ cs) (f ∷ fs) (x ∷ xs) [] h = absurd h
-read_as w k l (c ∷ cs) (f ∷ fs) (x ∷ xs) (b ∷ bs) h =
-    let one = taken_as (is_wanted w k) l c f x b h.0 in
-    let rest = read_as w (suc k) l cs fs xs bs h.1 in
+read_as : WordsSay → (w : List Bool) (k : ℕ) (l : Reading) (cs : List ColumnType) (fs : List Field) (xs : List Scalar) (bs : List Bool) → AreCellsIn w k l cs fs xs bs → AreReadAs w k l cs fs xs
+read_as say w k l [] [] [] [] h = record { cells = []; is = refl; agree = λ i j e t. refl }
+read_as say w k l [] [] [] (b ∷ bs) h = absurd h
+read_as say w k l [] [] (x ∷ xs) bs h = absurd h
+read_as say w k l [] (f ∷ fs) xs bs h = absurd h
+read_as say w k l (c ∷ cs) [] xs bs h = absurd h
+read_as say w k l (c ∷ cs) (f ∷ fs) [] bs h = absurd h
+read_as say w k l (c ∷ cs) (f ∷ fs) (x ∷ xs) [] h = absurd h
+read_as say w k l (c ∷ cs) (f ∷ fs) (x ∷ xs) (b ∷ bs) h =
+    let one = taken_as say (is_wanted w k) l c f x b h.0 in
+    let rest = read_as say w (suc k) l cs fs xs bs h.1 in
     record {
       cells = record { typed = column_type c; content = one.content } ∷ rest.cells;
       is = rw (one.is, rest.is) refl;
@@ -105,9 +106,9 @@ read_as w k l (c ∷ cs) (f ∷ fs) (x ∷ xs) (b ∷ bs) h =
     agrees one rest zero j e t = let same : j ≡ k = omega (arith, e) in one.cell (subst (λ (n : ℕ). is_wanted w n ≡ true) same t)
     agrees one rest (suc i) j e t = rest.agree i j (omega (arith, e)) t
 
-pub row_agrees : (w : List Bool) (d : ℕ) (l : Bool) (columns : List ColumnType) (line : List ℕ) (row : List Scalar) (n : ℕ) → IsRowIn w d l columns line row n → AgreeAsRows w (Some (map cell_of row)) (row_of d l columns line)
-row_agrees w d l columns line row n h =
-    let read = read_as w 0 l columns h.fields row h.flags h.cells in
+pub row_agrees : WordsSay → (w : List Bool) (d : ℕ) (l : Reading) (columns : List ColumnType) (line : List ℕ) (row : List Scalar) (n : ℕ) → IsRowIn w d l columns line row n → AgreeAsRows w (Some (map cell_of row)) (row_of d l columns line)
+row_agrees say w d l columns line row n h =
+    let read = read_as say w 0 l columns (fitted l.is_lenient columns h.fields) row h.flags h.cells in
     let is : row_of d l columns line ≡ Some read.cells = ap (only_row l columns) h.is ∙ read.is in
     subst (AgreeAsRows w (Some (map cell_of row))) (sym is) (λ k t. read.agree k k (omega arith) t)
 

@@ -7,8 +7,9 @@ use Rattle.csv_records.specs.Records.{records_of}
 use Rattle.std.proofs.lemmas.List.{length-map, map-append}
 use Rattle.std.proofs.lemmas.List.Sums.{sum_by-append}
 use Rattle.csv_records.specs.Rows.{Field, rows_of}
-use Rattle.record_rows.specs.Cells.{is_null_field}
-use Rattle.record_rows.specs.Rows.{refused_of}
+use Rattle.record_rows.specs.Readings.{Reading, is_null_field}
+use Rattle.record_rows.specs.Rows.{fitted, refused_of}
+use Rattle.record_rows.specs.declared.observing.RowNotes.{RowNotes}
 use Rattle.record_rows.specs.declared.schema.ColumnType.{ColumnType}
 use Rattle.record_rows.specs.declared.schema.Schema.{Schema}
 use Rattle.record_rows.specs.Observed.{AreFieldsObserved, IsObserved, IsStep, IsTakenAs, SomeIsFull, Step, cell_in}
@@ -23,50 +24,50 @@ use Rattle.vortex_value.specs.Values.Content.{Content}
 use Rattle.zone_index.specs.Encoding.{bytes_encoding}
 use Rattle.zone_index.specs.Sinks.{told}
 use Rattle.record_search.specs.Contents.{cells_of, field_content, only_row, row_of}
-use Rattle.record_search.specs.Searched.{AreAllComplete, AreAllWith, AreDescribed, AreDescribedFully, AreRowsOf, IsCutOf, IsFullOf, IsRightOf, ObservesRow, PushesCut, is_refused, nulls_under, row_under, untaken, untaken_of}
+use Rattle.record_search.specs.Searched.{AreAllComplete, AreAllWith, AreDescribed, AreDescribedFully, AreRowsOf, IsCutOf, IsFullOf, IsRightOf, ObservesRow, PushesCut, is_refused, longer_of, longer_under, nulls_under, row_under, strict, untaken, untaken_of}
 use Rattle.record_search.proofs.DescribeLaws.{all_described, described_more, fully_more, none_described, row_pushed, rows_more}
 use Rattle.record_search.proofs.RefusedLaws.{passed_none, passed_row}
-use Rattle.record_search.proofs.RowLaws.{cell_field, no_content, no_row, null_field}
+use Rattle.record_search.proofs.RowLaws.{WordsSay, cell_field, no_content, no_row, null_field}
 
 -- ---- the row of a record
 
 abbrev step_cell : Step → Cell
 step_cell s = cell_in s.column s.content
 
-content_taken : (l : Bool) (column : ColumnType) (f : Field) (c : Content) (b : Bool) → IsTakenAs l column f c b → field_content l column f ≡ Some c
-content_taken l column f c false h = cell_field l column f c (is_null_field column.nullability f) refl h
-content_taken l column f c true h = null_field l column f (is_null_field column.nullability f) refl h.0 h.2 h.1 ∙ ap (λ (d : Content). Some d) (sym h.3)
+content_taken : WordsSay → (l : Reading) (column : ColumnType) (f : Field) (c : Content) (b : Bool) → IsTakenAs l column f c b → field_content l column f ≡ Some c
+content_taken say l column f c false h = cell_field say l column f c (is_null_field l column.nullability f) refl h
+content_taken say l column f c true h = null_field say l column f (is_null_field l column.nullability f) refl h.0 h.2 h.1 ∙ ap (λ (d : Content). Some d) (sym h.3)
 
-step_cells : (l : Bool) (steps : List Step) → AllByRecursion (IsStep l) steps → cells_of l (map (λ s. s.column) steps) (map (λ s. s.field) steps) ≡ Some (map step_cell steps)
-step_cells l [] h = refl
-step_cells l (s ∷ steps) h = rw (content_taken l s.column s.field s.content s.flag h.0.0, step_cells l steps h.1) refl
+step_cells : WordsSay → (l : Reading) (steps : List Step) → AllByRecursion (IsStep l) steps → cells_of l (map (λ s. s.column) steps) (map (λ s. s.field) steps) ≡ Some (map step_cell steps)
+step_cells say l [] h = refl
+step_cells say l (s ∷ steps) h = rw (content_taken say l s.column s.field s.content s.flag h.0.0, step_cells say l steps h.1) refl
 
-steps_with : (l : Bool) (steps : List Step) → AllByRecursion (IsStep l) steps → AreAllWith (map (λ s. s.old) steps) (map step_cell steps) (map (λ s. s.new) steps)
+steps_with : (l : Reading) (steps : List Step) → AllByRecursion (IsStep l) steps → AreAllWith (map (λ s. s.old) steps) (map step_cell steps) (map (λ s. s.new) steps)
 steps_with l [] h = tt
 steps_with l (s ∷ steps) h = (h.0.1.complete, steps_with l steps h.1)
 
-fields_observed : (l : Bool) (columns : List ColumnType) (fields : List Field) (old new : List ColumnStatistics) (n : ℕ) (h : AreFieldsObserved l columns fields old new n) → (cells_of l columns fields ≡ Some (map step_cell h.steps)) × AreAllWith old (map step_cell h.steps) new
-fields_observed l columns fields old new n h = (
-  ap (λ (cs : List ColumnType). cells_of l cs fields) h.columns_are ∙ ap (cells_of l (map (λ (s : Step). s.column) h.steps)) h.fields_are ∙ step_cells l h.steps h.each,
+fields_observed : WordsSay → (l : Reading) (columns : List ColumnType) (fields : List Field) (old new : List ColumnStatistics) (n : ℕ) (h : AreFieldsObserved l columns fields old new n) → (cells_of l columns fields ≡ Some (map step_cell h.steps)) × AreAllWith old (map step_cell h.steps) new
+fields_observed say l columns fields old new n h = (
+  ap (λ (cs : List ColumnType). cells_of l cs fields) h.columns_are ∙ ap (cells_of l (map (λ (s : Step). s.column) h.steps)) h.fields_are ∙ step_cells say l h.steps h.each,
   subst (λ (xs : List ColumnStatistics). AreAllWith xs (map step_cell h.steps) new) (sym h.old_are) (subst (λ (xs : List ColumnStatistics). AreAllWith (map (λ (s : Step). s.old) h.steps) (map step_cell h.steps) xs) (sym h.new_are) (steps_with l h.steps h.each)),
 )
 
 -- what was observed of a record is its row
-pub row_observed : (d : ℕ) (l : Bool) (columns : List ColumnType) (line : List ℕ) (old new : List ColumnStatistics) (refused : Option ℕ) → MatchOption refused ((rows_of d line ≡ []) × (new ≡ old)) (IsObserved d l columns line old new) → ObservesRow (is_some refused) (row_of d l columns line) old new
-row_observed d l columns line old new (Some n) h =
-    let p = fields_observed l columns h.0 old new n h.2 in
+pub row_observed : WordsSay → (d : ℕ) (l : Reading) (columns : List ColumnType) (line : List ℕ) (old new : List ColumnStatistics) (refused : Option RowNotes) → MatchOption refused ((rows_of d line ≡ []) × (new ≡ old)) (IsObserved d l columns line old new) → ObservesRow (is_some refused) (row_of d l columns line) old new
+row_observed say d l columns line old new (Some n) h =
+    let p = fields_observed say l columns (fitted l.is_lenient columns h.0) old new n.refused h.2.0 in
     rw (ap (only_row l columns) h.1 ∙ p.0) p.1
-row_observed d l columns line old new None h = rw (no_row d l columns line h.0) h.1
+row_observed say d l columns line old new None h = rw (no_row d l columns line h.0) h.1
 
 observes_some : (o : Option (List Cell)) (old new : List ColumnStatistics) → ObservesRow true o old new → (row : List Cell) × (o ≡ Some row)
 observes_some (Some cells) old new h = (cells, refl)
 observes_some None old new h = absurd h
 
 -- a record that was observed is not refused
-pub passed_observed : (s : Schema) (line : List ℕ) (old new : List ColumnStatistics) (refused : Option ℕ) → MatchOption refused ((rows_of s.delimiter.byte line ≡ []) × (new ≡ old)) (IsObserved s.delimiter.byte s.is_lenient s.columns.items line old new) → is_refused s line ≡ false
-passed_observed s line old new None h = passed_none s line h.0
-passed_observed s line old new (Some n) h =
-    let some = observes_some (row_under s line) old new (row_observed s.delimiter.byte s.is_lenient s.columns.items line old new (Some n) h) in
+pub passed_observed : WordsSay → (s : Schema) (line : List ℕ) (old new : List ColumnStatistics) (refused : Option RowNotes) → MatchOption refused ((rows_of s.delimiter.byte line ≡ []) × (new ≡ old)) (IsObserved s.delimiter.byte s.reading s.columns.items line old new) → is_refused s line ≡ false
+passed_observed say s line old new None h = passed_none s line h.0
+passed_observed say s line old new (Some n) h =
+    let some = observes_some (row_under s line) old new (row_observed say s.delimiter.byte s.reading s.columns.items line old new (Some n) h) in
     passed_row s line some.0 some.1
 
 -- ---- nulls in place of fields
@@ -77,25 +78,33 @@ none_is o e = ap is_none e
 some_is : {A : Type 0} (o : Option A) (x : A) → o ≡ Some x → is_none o ≡ false
 some_is o x e = ap is_none e
 
-flag_is : (l : Bool) (column : ColumnType) (f : Field) (c : Content) (b : Bool) → IsTakenAs l column f c b → is_none (field_content false column f) ≡ b
-flag_is l column f c false h = some_is (field_content false column f) c (cell_field false column f c (is_null_field column.nullability f) refl h)
-flag_is l column f c true h = none_is (field_content false column f) (no_content column f (is_null_field column.nullability f) refl h.1)
+flag_is : WordsSay → (l : Reading) (column : ColumnType) (f : Field) (c : Content) (b : Bool) → IsTakenAs l column f c b → is_none (field_content (strict l) column f) ≡ b
+flag_is say l column f c false h = some_is (field_content (strict l) column f) c (cell_field say (strict l) column f c (is_null_field l column.nullability f) refl h)
+flag_is say l column f c true h = none_is (field_content (strict l) column f) (no_content say l column f (is_null_field l column.nullability f) refl h.1)
 
 count_more : (b : Bool) (bs : List Bool) → (if b then 1 else 0) + refused_of bs ≡ refused_of (b ∷ bs)
 count_more b bs = omega (arith, sum_by-append (λ (c : Bool). if c then 1 else 0) (b ∷ []) bs)
 
-steps_untaken : (l : Bool) (steps : List Step) → AllByRecursion (IsStep l) steps → untaken (map (λ s. s.column) steps) (map (λ s. s.field) steps) ≡ refused_of (map (λ s. s.flag) steps)
-steps_untaken l [] h = refl
-steps_untaken l (s ∷ steps) h = rw (flag_is l s.column s.field s.content s.flag h.0.0, steps_untaken l steps h.1) (count_more s.flag (map (λ (t : Step). t.flag) steps))
+steps_untaken : WordsSay → (l : Reading) (steps : List Step) → AllByRecursion (IsStep l) steps → untaken l (map (λ s. s.column) steps) (map (λ s. s.field) steps) ≡ refused_of (map (λ s. s.flag) steps)
+steps_untaken say l [] h = refl
+steps_untaken say l (s ∷ steps) h = rw (flag_is say l s.column s.field s.content s.flag h.0.0, steps_untaken say l steps h.1) (count_more s.flag (map (λ (t : Step). t.flag) steps))
 
 -- the nulls that stand in place of fields are those of the record
-pub nulls_observed : (s : Schema) (line : List ℕ) (old new : List ColumnStatistics) (refused : Option ℕ) → MatchOption refused ((rows_of s.delimiter.byte line ≡ []) × (new ≡ old)) (IsObserved s.delimiter.byte s.is_lenient s.columns.items line old new) → unwrap_or refused 0 ≡ nulls_under s line
-nulls_observed s line old new None h = sym (ap (untaken_of s.columns.items) h.0)
-nulls_observed s line old new (Some n) h =
+pub nulls_observed : WordsSay → (s : Schema) (line : List ℕ) (old new : List ColumnStatistics) (notes : RowNotes) → IsObserved s.delimiter.byte s.reading s.columns.items line old new notes → notes.refused ≡ nulls_under s line
+nulls_observed say s line old new notes h =
     let columns = s.columns.items in
-    let all : untaken columns h.0 ≡ refused_of (map (λ (t : Step). t.flag) h.2.steps) =
-    ap (λ (cs : List ColumnType). untaken cs h.0) h.2.columns_are ∙ ap (untaken (map (λ (t : Step). t.column) h.2.steps)) h.2.fields_are ∙ steps_untaken s.is_lenient h.2.steps h.2.each in
-    h.2.count ∙ sym all ∙ sym (ap (untaken_of columns) h.1)
+    let fields = fitted s.reading.is_lenient columns h.0 in
+    let all : untaken s.reading columns fields ≡ refused_of (map (λ (t : Step). t.flag) h.2.0.steps) =
+    ap (λ (cs : List ColumnType). untaken s.reading cs fields) h.2.0.columns_are ∙ ap (untaken s.reading (map (λ (t : Step). t.column) h.2.0.steps)) h.2.0.fields_are ∙ steps_untaken say s.reading h.2.0.steps h.2.0.each in
+    h.2.0.count ∙ sym all ∙ sym (ap (untaken_of s.reading columns) h.1)
+
+-- whether the record is longer is noted
+pub longer_observed : (s : Schema) (line : List ℕ) (old new : List ColumnStatistics) (notes : RowNotes) → IsObserved s.delimiter.byte s.reading s.columns.items line old new notes → from_bool notes.is_longer ≡ longer_under s line
+longer_observed s line old new notes h = ap from_bool h.2.1 ∙ sym (ap (longer_of s.columns.items) h.1)
+
+-- a record without fields has none that are noted
+pub none_noted : (s : Schema) (line : List ℕ) → rows_of s.delimiter.byte line ≡ [] → (0 ≡ nulls_under s line) × (0 ≡ longer_under s line)
+none_noted s line none = (sym (ap (untaken_of s.reading s.columns.items) none), sym (ap (longer_of s.columns.items) none))
 
 -- the sum over the records so far, as far as 64 bits tell
 pub record NullsSeen (f : List ℕ → ℕ) (d : ℕ) (text rest : List ℕ) (nulls : ℕ) : Type 0 where

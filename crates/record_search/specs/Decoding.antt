@@ -3,12 +3,16 @@ use Rattle.std.specs.Prelude.{◌==◌, ◌&&◌, ◌+◌, ◌*◌, ◌-◌, ◌
 use Rattle.std.specs.List.{list_all}
 use Rattle.std.specs.Int.{w64, from_le_bytes}
 use Rattle.std.specs.Str.{bytes_eq, is_utf8}
+use Rattle.logical_types.specs.Extensions.{storage_type_of}
+use Rattle.logical_types.specs.declared.extensions.StorageType.{StorageType}
+use Rattle.logical_types.specs.declared.extensions.StorageType.TheVariants.{Bytes, I32, I64}
 use Rattle.record_rows.specs.Cells.{column_type}
 use Rattle.record_rows.specs.declared.schema.ColumnType.{ColumnType}
 use Rattle.record_rows.specs.declared.schema.Kind.{Kind}
 use Rattle.record_rows.specs.declared.schema.Kind.TheVariants as kinds
 use Rattle.vortex_dtype.specs.TypeTree.{TypeTree, says_nullable}
 use Rattle.vortex_dtype.specs.declared.nullability.Nullability.{Nullability}
+use Rattle.vortex_dtype.specs.declared.ptype.PType.TheVariants as ptypes
 use Rattle.vortex_pvalue.specs.Numbers.{in_range}
 use Rattle.vortex_row.specs.Keys.{inverted}
 use Rattle.statistics_bytes.specs.Encoding.{encoding}
@@ -69,12 +73,21 @@ said_by t bytes =
 abbrev pub are_bytes : List ℕ → Bool
 are_bytes bs = list_all (λ b. nat_lt b 256) bs
 
+-- whether the content is one of such storages
+abbrev pub has_stored : StorageType → Content → Bool
+has_stored I32 (whole z) = in_range ptypes.I32 z
+has_stored I64 (whole z) = in_range ptypes.I64 z
+has_stored Bytes (string bs) = are_bytes bs
+has_stored kind c = false
+
 -- whether a column has this content
 abbrev pub has_content : Kind → Nullability → Content → Bool
 has_content kind n null = says_nullable n
 has_content (kinds.Integer ptype) n (whole z) = in_range ptype z
 has_content kinds.Utf8 n (text bs) = is_utf8 bs && are_bytes bs
 has_content kinds.Binary n (string bs) = are_bytes bs
+has_content kinds.Bytes n (string bs) = are_bytes bs
+has_content (kinds.Logical logical) n c = has_stored (storage_type_of logical) c
 has_content kind n c = false
 
 abbrev pub has_bound : ColumnType → Option KnownBound → Bool

@@ -4,6 +4,7 @@ use Rattle.std.specs.Io.KnownBytes.{Appends}
 use Rattle.std.specs.List.{AllPass}
 use Rattle.csv_records.specs.Rows.{rows_of}
 use Rattle.record_rows.specs.Cells.{column_type}
+use Rattle.record_rows.specs.Readings.{Reading}
 use Rattle.record_rows.specs.Rows.{IsRow}
 use Rattle.record_rows.specs.declared.schema.ColumnType.{ColumnType}
 use Rattle.vortex_filter.specs.Formula.{Formula}
@@ -26,10 +27,10 @@ use Rattle.record_rows.specs.declared.schema.Schema.{Schema}
 
 -- the computed row is the one that is read, whatever stands in place of a cell; without rows there is none
 pub record RowsAreRead : Type 0 where
-  pub row : (delimiter : ℕ) (lenient : Bool) (columns : List ColumnType) (line : List ℕ) (row : List Scalar) (refused : ℕ)
-      → IsRow delimiter lenient columns line row refused → row_of delimiter lenient columns line ≡ Some (map cell_of row)
-  pub none : (delimiter : ℕ) (lenient : Bool) (columns : List ColumnType) (line : List ℕ)
-      → rows_of delimiter line ≡ [] → row_of delimiter lenient columns line ≡ None
+  pub row : (delimiter : ℕ) (reading : Reading) (columns : List ColumnType) (line : List ℕ) (row : List Scalar) (refused : ℕ)
+      → IsRow delimiter reading columns line row refused → row_of delimiter reading columns line ≡ Some (map cell_of row)
+  pub none : (delimiter : ℕ) (reading : Reading) (columns : List ColumnType) (line : List ℕ)
+      → rows_of delimiter line ≡ [] → row_of delimiter reading columns line ≡ None
 
 -- the computed statistics are those that the piece says
 abbrev pub PiecesAreRead : Type 0

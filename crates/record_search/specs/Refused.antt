@@ -17,7 +17,7 @@ row_fault causes.LoneReturn = row_faults.LoneReturn
 
 -- why a record is refused under a schema: the first error from left to right
 abbrev pub RefusesRecord : Schema → List ℕ → Cause → Type 0
-RefusesRecord s line cause = Refuses s.delimiter.byte s.is_lenient s.columns.items line (row_fault cause)
+RefusesRecord s line cause = Refuses s.delimiter.byte s.reading s.columns.items line (row_fault cause)
 
 -- the error of a row, of a record that begins at this offset
 abbrev pub fault_at_place : ℕ → RowReadError → RecordError

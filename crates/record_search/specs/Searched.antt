@@ -1,10 +1,12 @@
 -- Which records match, and what statistics say of their rows.
-use Rattle.std.specs.Prelude.{◌≡◌, ◌⊎◌, ◌++◌, ◌<◌, ◌^◌, ◌&&◌, ℕ, suc, List, [], ◌∷◌, Bool, false, true, Option, None, Some, Vec, filter_map, if◌then◌else◌, is_some, length, map, not, ◌+◌, is_none}
+use Rattle.std.specs.Prelude.{◌≡◌, ◌⊎◌, ◌++◌, ◌<◌, ◌^◌, ◌&&◌, ℕ, suc, List, [], ◌∷◌, Bool, false, true, Option, None, Some, Vec, filter_map, if◌then◌else◌, is_some, length, map, nat_lt, not, ◌+◌, is_none}
 use Rattle.std.specs.Global.{Global}
 use Rattle.std.specs.List.{AllByRecursion, flat_map}
 use Rattle.csv_records.specs.Records.{records_of}
 use Rattle.csv_records.specs.Rows.{Field, rows_of}
 use Rattle.record_rows.specs.Cells.{column_type}
+use Rattle.record_rows.specs.Readings.{Reading}
+use Rattle.record_rows.specs.Rows.{fitted}
 use Rattle.record_rows.specs.declared.schema.ColumnType.{ColumnType}
 use Rattle.vortex_dtype.specs.TypeTree.{TypeTree}
 use Rattle.vortex_filter.specs.Formula.{Formula, is_match}
@@ -31,7 +33,7 @@ use Rattle.record_rows.specs.declared.schema.Schema.{Schema}
 
 -- the row of a record under a schema
 abbrev pub row_under : Schema → List ℕ → Option (List Cell)
-row_under s line = row_of s.delimiter.byte s.is_lenient s.columns.items line
+row_under s line = row_of s.delimiter.byte s.reading s.columns.items line
 
 -- whether there is one
 abbrev pub has_row : Schema → List ℕ → Bool
@@ -165,20 +167,33 @@ DescribeRowsFully n s bytes records = AreDescribedFully n s.columns.items (rows_
 
 -- ---- nulls in place of fields
 
+-- the same reading, where no null stands in place of a field
+abbrev pub strict : Reading → Reading
+strict reading = record { is_lenient = false; nulls = reading.nulls }
+
 -- how many of the fields their columns do not take
-abbrev pub untaken : List ColumnType → List Field → ℕ
-untaken [] fields = 0
-untaken (c ∷ cs) [] = 0
-untaken (c ∷ cs) (f ∷ fs) = (if is_none (field_content false c f) then 1 else 0) + untaken cs fs
+abbrev pub untaken : Reading → List ColumnType → List Field → ℕ
+untaken reading [] fields = 0
+untaken reading (c ∷ cs) [] = 0
+untaken reading (c ∷ cs) (f ∷ fs) = (if is_none (field_content (strict reading) c f) then 1 else 0) + untaken reading cs fs
 
 -- the same of the first row of a record
-abbrev pub untaken_of : List ColumnType → List (List Field) → ℕ
-untaken_of columns [] = 0
-untaken_of columns (fields ∷ rows) = untaken columns fields
+abbrev pub untaken_of : Reading → List ColumnType → List (List Field) → ℕ
+untaken_of reading columns [] = 0
+untaken_of reading columns (fields ∷ rows) = untaken reading columns (fitted reading.is_lenient columns fields)
 
 -- how many fields of a record stand as a null since their columns do not take them
 abbrev pub nulls_under : Schema → List ℕ → ℕ
-nulls_under s line = untaken_of s.columns.items (rows_of s.delimiter.byte line)
+nulls_under s line = untaken_of s.reading s.columns.items (rows_of s.delimiter.byte line)
+
+-- 1 if the first row of a record has more fields than columns, else 0
+abbrev pub longer_of : List ColumnType → List (List Field) → ℕ
+longer_of columns [] = 0
+longer_of columns (fields ∷ rows) = if nat_lt (length columns) (length fields) then 1 else 0
+
+-- the same of a record
+abbrev pub longer_under : Schema → List ℕ → ℕ
+longer_under s line = longer_of s.columns.items (rows_of s.delimiter.byte line)
 
 -- ---- an index and what is found by it
 

@@ -8,10 +8,11 @@ ghost use Rattle.record_search.specs.Words.{AreAllComplete, AreDescribed, AreDes
 ghost use Rattle.record_search.specs.Words.{DescribeRows, DescribeRowsFully, IfRecordRefused, IsHeldKnown, ObservesRow};
 ghost use Rattle.record_search.specs.Words.{PushesCut, RefusesRecord, SomeIsFull, TellsOffset, TellsOneOf, TellsRecord};
 ghost use Rattle.record_search.specs.Words.{before_refused, bytes_encoding, encoding, has_row, is_refused, known};
-ghost use Rattle.record_search.specs.Words.{nulls_under, row_under, rows_under, told};
+ghost use Rattle.record_search.specs.Words.{longer_under, nulls_under, row_under, rows_under, told};
 
 use crate::schema::{Schema, record_fault};
 use csv_records::{Delimiter, cut_record};
+use logical_types::laws::shapes_say_words;
 use record_rows::{ObserveError, observe_record};
 use statistics_bytes::append_statistics;
 use std::alloc::{AllocError, Global};
@@ -48,15 +49,18 @@ impl Describer for RowDescriber<'_> {
 
     ghost nulls_of = { λ d. nulls_under d.schema.now };
 
+    ghost longer_of = { λ d. longer_under d.schema.now };
+
     fn describe(&self, alloc: Global, text: &[u8]) -> Result<Described, RecordError> {
         let mut columns = empty_statistics(alloc, self.schema.columns.len())?;
-        let (records, rows, nulls) = observe_text(alloc, self.schema, text, &mut columns)?;
+        let (records, rows, nulls, longer) = observe_text(alloc, self.schema, text, &mut columns)?;
         let statistics = encodings_of(alloc, self, columns)?;
         Ok(Described {
             records,
             rows,
             statistics,
             nulls,
+            longer,
         })
     }
 }
@@ -75,14 +79,14 @@ pub(crate) fn empty_statistics(
     Ok(all)
 }
 
-/// Observes the rows of a text, and says how many records it has, how many of them a row, and how
-/// many nulls stand in place of fields.
+/// Observes the rows of a text, and says how many records it has, how many of them a row, how many
+/// nulls stand in place of fields, and how many records have more fields than columns.
 fn observe_text(
     alloc: Global,
     schema: &Schema,
     text: &[u8],
     statistics: &mut [ColumnStatistics],
-) -> Result<(u64, u64, u64), RecordError>
+) -> Result<(u64, u64, u64, u64), RecordError>
     requires many { length statistics.old ≡ length schema.now.columns.items }
     requires fresh { AreAllComplete 0 [] statistics.old }
     ensures records { IfOk result (λ read. read.0 ≡
@@ -93,6 +97,8 @@ fn observe_text(
         (rows_under schema.now (records_of schema.now.delimiter.byte text.now)) statistics.new) }
     ensures nulls { IfOk result (λ read. read.2 ≡
         told (sum_by (nulls_under schema.now) (records_of schema.now.delimiter.byte text.now))) }
+    ensures longer { IfOk result (λ read. read.3 ≡
+        told (sum_by (longer_under schema.now) (records_of schema.now.delimiter.byte text.now))) }
     ensures length { length statistics.new ≡ length statistics.old }
     ensures passed { OnOk result (before_refused (is_refused schema.now)
         (records_of schema.now.delimiter.byte text.now) ≡ None) }
@@ -104,22 +110,31 @@ fn observe_text(
     let mut records = 0u64;
     let mut rows = 0u64;
     let mut nulls = 0u64;
+    let mut longer = 0u64;
     let mut buffer = Vec::new(alloc);
     let mut rest = text;
     while !rest.is_empty() {
         let place = (text.len() - rest.len()) as u64;
         let (line, after) = cut_record(schema.delimiter, rest);
-        let (has_row, more) = observe_line(alloc, schema, place, line, &mut buffer, statistics)?;
+        let (has_row, more_nulls, more_longer) = observe_line(
+            alloc,
+            schema,
+            place,
+            line,
+            &mut buffer,
+            statistics,
+        )?;
         records += 1;
         rows += u64::from(has_row);
-        nulls = nulls.saturating_add(more);
+        nulls = nulls.saturating_add(more_nulls);
+        longer = longer.saturating_add(more_longer);
         rest = after;
     }
-    Ok((records, rows, nulls))
+    Ok((records, rows, nulls, longer))
 }
 
-/// Observes the row of a record, which begins at this offset, and says whether it has one, and how
-/// many nulls stand in place of fields.
+/// Observes the row of a record, which begins at this offset, and says whether it has one, how many
+/// nulls stand in place of fields, and with 1 that it has more fields than columns.
 fn observe_line(
     alloc: Global,
     schema: &Schema,
@@ -127,19 +142,22 @@ fn observe_line(
     line: &[u8],
     buffer: &mut Vec<u8>,
     statistics: &mut [ColumnStatistics],
-) -> Result<(bool, u64), RecordError>
+) -> Result<(bool, u64, u64), RecordError>
     requires many { length statistics.old ≡ length schema.now.columns.items }
     requires few { ¬ (SomeIsFull statistics.old) }
     ensures observed { IfOk result (λ seen. ObservesRow seen.0 (row_under schema.now line.now)
         statistics.old statistics.new) }
     ensures nulls { IfOk result (λ seen. seen.1 ≡ nulls_under schema.now line.now) }
+    ensures longer { IfOk result (λ seen. seen.2 ≡ longer_under schema.now line.now) }
     ensures length { length statistics.new ≡ length statistics.old }
     ensures passed { OnOk result (is_refused schema.now line.now ≡ false) }
     ensures refused { IfErr result (IfRecordRefused (TellsRecord (RefusesRecord schema.now) place line.now)) }
     ensures right { IfErr result (IfRecordRefused (λ _. is_refused schema.now line.now ≡ true)) }
 {
+    shapes_say_words();
     match observe_record(alloc, schema, line, buffer, statistics) {
-        Ok(nulls) => Ok((nulls.is_some(), nulls.unwrap_or(0) as u64)),
+        Ok(Some(notes)) => Ok((true, notes.refused as u64, u64::from(notes.is_longer))),
+        Ok(None) => Ok((false, 0, 0)),
         Err(ObserveError::Row(error)) => Err(record_fault(place, error)),
         Err(ObserveError::TooManyRows) => unreachable!(),
     }

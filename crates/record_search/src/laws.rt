@@ -6,6 +6,7 @@
 ghost use Rattle.record_search.specs.Laws.{DecisionsAreRight, IndexesAreReadBack, IndexesFindAll, PiecesAreRead};
 ghost use Rattle.record_search.specs.Laws.{RowsAreRead};
 
+use logical_types::laws::shapes_say_words;
 use vortex_row::laws::{keys_are_apart, values_have_no_typed};
 use vortex_value::laws::{order_is_reversed, order_is_transitive};
 
@@ -13,7 +14,9 @@ use vortex_value::laws::{order_is_reversed, order_is_transitive};
 /// has none.
 pub fn rows_are_read()
     ensures { RowsAreRead }
-{}
+{
+    shapes_say_words();
+}
 
 /// The statistics that are computed of a piece are those that it says, for each type that columns of
 /// records have.

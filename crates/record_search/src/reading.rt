@@ -1,24 +1,33 @@
 //! Statistics of columns are read back.
 
-ghost use Rattle.std.specs.Prelude.{◌≡◌, IfOk, None, Some, if◌then◌else◌, length, map, option_map};
+ghost use Rattle.std.specs.Prelude.{◌≡◌, ℕ, List, IfErr, IfOk, None, Some, if◌then◌else◌, length, map, option_map};
 ghost use Rattle.record_search.specs.Words.{columns_in, known, piece_in, statistics_in};
+ghost use Rattle.zone_index.specs.Encoding.{ArePieces};
 
 use crate::describing::empty_statistics;
 use record_rows::{ColumnType, dtype_of};
 use statistics_bytes::decode_piece_into;
 use std::alloc::{AllocError, Global};
 use vortex_statistics::{ColumnStatistics, StatisticsError};
+use zone_index::are_pieces;
 
 /// The statistics of each column, where the bytes are their pieces, each after its length. An empty
 /// piece leaves all open.
+///
+/// Whether they are so many pieces is tested before memory is asked for.
 pub fn read_statistics(
     alloc: Global,
     columns: &[ColumnType],
     bytes: &[u8],
 ) -> Result<Option<Vec<ColumnStatistics>>, AllocError>
-    ensures { IfOk result (λ read. option_map (λ v. map known v.items) read ≡
+    ensures read { IfOk result (λ read. option_map (λ v. map known v.items) read ≡
         columns_in columns.now bytes.now) }
+    ensures refused { IfErr result (λ _. (pieces : List (List ℕ))
+        × ArePieces (length columns.now) bytes.now pieces) }
 {
+    if !are_pieces(columns.len(), bytes) {
+        return Ok(None);
+    }
     let mut all = empty_statistics(alloc, columns.len())?;
     if read_all(alloc, columns, bytes, &mut all)? {
         Ok(Some(all))
@@ -81,7 +90,8 @@ fn read_column(
     ensures { IfOk result (λ is. (if is then Some (known statistics.new) else None) ≡
         statistics_in column bytes.now) }
 {
-    match decode_piece_into(alloc, &dtype_of(column), bytes, statistics) {
+    let dtype = dtype_of(alloc, column)?;
+    match decode_piece_into(alloc, &dtype, bytes, statistics) {
         Ok(()) => Ok(true),
         Err(error) => match error {
             StatisticsError::OutOfMemory => Err(AllocError),

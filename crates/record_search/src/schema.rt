@@ -4,6 +4,7 @@ ghost use Rattle.std.specs.Prelude.{◌≡◌, None, Some, IfErr, IfOk, OnOk, fa
 ghost use Rattle.record_search.specs.Words.{AgreeAsRows, IfRecordRefused, RefusesRecord, TellsRecord, cell_of};
 ghost use Rattle.record_search.specs.Words.{fault_at_place, is_refused, row_cells, row_under};
 
+use logical_types::laws::shapes_say_words;
 pub use record_rows::Schema;
 use record_rows::{RowReadError, read_cells, read_row};
 use std::alloc::Global;
@@ -23,6 +24,7 @@ pub fn row_of_record(
     ensures refused { IfErr result (IfRecordRefused (TellsRecord (RefusesRecord schema.now) place line.now)) }
     ensures right { IfErr result (IfRecordRefused (λ _. is_refused schema.now line.now ≡ true)) }
 {
+    shapes_say_words();
     let mut row = Vec::with_capacity(alloc, schema.columns.len())?;
     match read_row(alloc, schema, line, &mut row) {
         Ok(Some(_)) => Ok(Some(row)),
@@ -47,6 +49,7 @@ pub(crate) fn cells_of_record(
     ensures refused { IfErr result (IfRecordRefused (TellsRecord (RefusesRecord schema.now) place line.now)) }
     ensures right { IfErr result (IfRecordRefused (λ _. is_refused schema.now line.now ≡ true)) }
 {
+    shapes_say_words();
     match read_cells(alloc, schema, wanted, line, row) {
         Ok(Some(_)) => Ok(true),
         Ok(None) => Ok(false),

@@ -4,7 +4,8 @@ ghost use Rattle.std.specs.Prelude.{◌≡◌, ◌≢◌, ◌<◌, ◌++◌, [],
 ghost use Rattle.record_search.specs.Words.{AnswersCountRows, AnswersFindRows, Asks, CutShort, EndsFar, HaveSizes};
 ghost use Rattle.record_search.specs.Words.{IfRefused, IsFullRowIndex, IsOfZone, IsPartOfZone, IsRowIndex};
 ghost use Rattle.record_search.specs.Words.{RefusesRecord, TellsOffset, TellsOneOf, TooFar, FailedWrite};
-ghost use Rattle.record_search.specs.Words.{before_refused, columns_of, decision_of, formula, is_refused, nulls_under};
+ghost use Rattle.record_search.specs.Words.{before_refused, columns_of, decision_of, formula, is_refused, longer_under};
+ghost use Rattle.record_search.specs.Words.{nulls_under};
 ghost use Rattle.record_search.specs.Words.{records_under, told};
 
 use crate::describing::RowDescriber;
@@ -39,6 +40,9 @@ pub fn index_rows<B: BufRead>(
         → HaveSizes size indexed.zones.items) }
     ensures nulls { IfOk result (λ indexed. (bytes : List ℕ) → B.remaining reader.old ≡ Some bytes
         → indexed.nulls ≡ told (sum_by (nulls_under describer.now.schema.now)
+        (records_under describer.now.schema.now bytes))) }
+    ensures longer { IfOk result (λ indexed. (bytes : List ℕ) → B.remaining reader.old ≡ Some bytes
+        → indexed.longer ≡ told (sum_by (longer_under describer.now.schema.now)
         (records_under describer.now.schema.now bytes))) }
     ensures reading { IfErr result (λ fault. fault ≢ FailedWrite) }
     ensures uncut { IfErr result (λ fault. fault ≢ CutShort) }

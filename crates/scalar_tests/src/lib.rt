@@ -49,4 +49,5 @@ pub mod view_laws;
 mod views;
 #[cfg(test)]
 mod whole_runs;
+pub mod zone_statistics;
 pub mod zones;

@@ -7,10 +7,11 @@ use Rattle.column_filters.specs.Zones.{AreOutcomes, RefusesZones}
 use Rattle.column_filters.specs.declared.errors.MaskError.{MaskError}
 use Rattle.column_filters.specs.declared.errors.MaskError.TheVariants as mask
 use Rattle.column_filters.specs.declared.errors.ZoneError.{ZoneError}
-use Rattle.filter_encoding.specs.Answers.{IsFirstWrong, IsEncoding}
-use Rattle.filter_encoding.specs.Encoding.{EncodingsAreApart, HasEncoding, IsLiteral, Nests, Prepared, encoding, prepared}
+use Rattle.filter_encoding.specs.Answers.{HasNoValue, IsFirstWrong, IsEncoding}
+use Rattle.filter_encoding.specs.Encoding.{EncodingsAreApart, HasEncoding, HasValues, IsFormed, IsLiteral, IsVersion, Nests, Prepared, encoding_in, prepared, version_of}
+use Rattle.filter_encoding.proofs.EncodingLaws.{written_version}
 use Rattle.filter_encoding.specs.declared.error.FilterEncodingError.{FilterEncodingError}
-use Rattle.filter_encoding.specs.declared.error.FilterEncodingError.TheVariants.{BadBytes, NoEncoding, OutOfMemory}
+use Rattle.filter_encoding.specs.declared.error.FilterEncodingError.TheVariants.{BadBytes, NoEncoding, NotAValue, OutOfMemory}
 use Rattle.filter_encoding.specs.declared.prepared.PreparedFilter.{PreparedFilter}
 use Rattle.vortex_dtype.specs.TypeOf.{type_of}
 use Rattle.vortex_dtype.specs.declared.types.DType.{DType}
@@ -24,12 +25,14 @@ use Rattle.vortex_c.specs.declared.filters.ZonesError.TheVariants as zones
 use Rattle.vortex_c.specs.declared.status.TheConstants.{NO_MEMORY}
 
 -- why bytes are not read
-pub unread : (n : ℕ) (bytes : List ℕ) (e : FilterEncodingError) → (e ≡ OutOfMemory) ⊎ ((place : ℕ) × (e ≡ BadBytes place)) → ((place : ℕ) → e ≡ BadBytes place → IsFirstWrong (IsEncoding n) bytes place) → IsUnread n bytes e
-unread n bytes e (inl none) bad = subst (IsUnread n bytes) (sym none) tt
-unread n bytes e (inr wrong) bad = subst (IsUnread n bytes) (sym wrong.1) (bad wrong.0 wrong.1)
+pub unread : (n : ℕ) (bytes : List ℕ) (e : FilterEncodingError) → (e ≡ OutOfMemory) ⊎ (((place : ℕ) × (e ≡ BadBytes place)) ⊎ ((place : ℕ) × (e ≡ NotAValue place))) → ((place : ℕ) → e ≡ BadBytes place → IsFirstWrong (IsEncoding n) bytes place)
+    → ((place : ℕ) → e ≡ NotAValue place → HasNoValue n bytes) → IsUnread n bytes e
+unread n bytes e (inl none) bad no_value = subst (IsUnread n bytes) (sym none) tt
+unread n bytes e (inr (inl wrong)) bad no_value = subst (IsUnread n bytes) (sym wrong.1) (bad wrong.0 wrong.1)
+unread n bytes e (inr (inr wrong)) bad no_value = subst (IsUnread n bytes) (sym wrong.1) (no_value wrong.0 wrong.1)
 
-pub encoding-of : (n : ℕ) (bytes : List ℕ) (q : PreparedFilter) → HasEncoding n (prepared q) × (bytes ≡ encoding (prepared q)) → IsEncodingOf n bytes (prepared q)
-encoding-of n bytes q h = record { has_encoding = h.0; is = h.1 }
+pub encoding-of : (n : ℕ) (bytes : List ℕ) (q : PreparedFilter) → (version : ℕ) × IsVersion version × HasEncoding n (prepared q) × (bytes ≡ encoding_in version (prepared q)) → IsEncodingOf n bytes (prepared q)
+encoding-of n bytes q h = record { version = h.0; is_version = h.1; has_encoding = h.2; is = h.3 }
 
 -- rows
 
@@ -73,15 +76,24 @@ deeper (negation f) (suc n) zero l h = absurd (omega arith)
 deeper (negation f) (suc n) (suc m) l h = deeper f n m (omega arith) h
 
 module _ (law : EncodingsAreApart) (n : ℕ) (words : List ℕ) (named : List NamedKind) (bytes : List ℕ) (h : IsPreparedFrom n words named bytes) where
+  one_filter : (m version : ℕ) (q : Prepared) → IsFormed m q → bytes ≡ encoding_in version q → q ≡ prepared_of named h.filter
+  one_filter m version q formed is =
+      (law m (encoding_depth n) version (version_of (prepared_of named h.filter)) q (prepared_of named h.filter) [] [] formed h.written.formed (ap (λ xs. xs ++ []) (sym is ∙ h.is))).1
+
   same_filter : (m : ℕ) (q : Prepared) → IsEncodingOf m bytes q → q ≡ prepared_of named h.filter
-  same_filter m q is = (law m (encoding_depth n) q (prepared_of named h.filter) [] [] is.has_encoding h.written (ap (λ xs. xs ++ []) (sym is.is ∙ h.is))).0
+  same_filter m q is = one_filter m is.version q is.has_encoding.formed is.is
 
   never_bad : (m : ℕ) → n ≤ m → (cause : FilterEncodingError) → IsUnread (encoding_depth m) bytes cause → cause ≡ OutOfMemory
   never_bad m l OutOfMemory u = refl
   never_bad m l NoEncoding u = absurd u
   never_bad m l (BadBytes offset) u =
       let deep : encoding_depth n ≤ encoding_depth m = omega arith in
-      absurd (u.none (record { value = prepared_of named h.filter; is_one = record { types = h.written.types; filter = deeper h.filter (encoding_depth n) (encoding_depth m) deep h.written.filter }; is = h.is }))
+      let p = prepared_of named h.filter in
+      let formed = h.written.formed in
+      absurd (u.none (record { version = version_of p; value = p; is_version = written_version p; is_one = record { types = formed.types; filter = deeper h.filter (encoding_depth n) (encoding_depth m) deep formed.filter }; is = h.is }))
+  never_bad m l (NotAValue offset) u =
+      let q = u.encoded in
+      absurd (u.none (subst (λ (p : Prepared). HasValues p.filter) (sym (one_filter (encoding_depth m) q.version q.value q.is_one q.is)) h.written.values))
 
   pub all_of_words : AreOfWords n words named bytes h
   all_of_words = record {

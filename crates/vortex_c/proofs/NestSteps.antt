@@ -11,6 +11,7 @@ use Rattle.arrow_columns.specs.declared.kinds.Kind.{Kind}
 use Rattle.arrow_columns.specs.declared.kinds.Kind.TheVariants.{Binary, Boolean, Integer, LargeBinary, LargeUtf8, Null, Utf8}
 use Rattle.column_cells.specs.Types.{type_at}
 use Rattle.vortex_dtype.specs.TypeTree.{binary_type, bool_type, erase, integer_type, null_type, TypeTree, utf8_type}
+use Rattle.vortex_value.specs.Equality.{HasNoTyped}
 use Rattle.vortex_cells.specs.Cells.{Cell}
 use Rattle.vortex_filter.specs.declared.operator.CompareOperator.{CompareOperator}
 use Rattle.vortex_filter.specs.declared.operator.CompareOperator.TheVariants.{Eq, NotEq, Gt, Gte, Lt, Lte}
@@ -20,8 +21,9 @@ use Rattle.vortex_filter.specs.Literals.{LiteralTree, position_of, text_literal}
 use Rattle.vortex_filter.specs.Operators.{holds}
 use Rattle.vortex_filter.specs.Positions.{cells_of, comparison_above, comparison_of, exactly, for_values, just_above, lacking, member_among, member_of, PositionTree, prefix_of, range_of}
 use Rattle.vortex_filter.proofs.PositionLaws.{CellFits}
-use Rattle.filter_encoding.specs.Encoding.{CanBeWritten, IsPlain, IsPlainCell, Nests}
+use Rattle.filter_encoding.specs.Encoding.{CanBeWritten, HasByte, IsPlain, IsPlainCell, Nests}
 use Rattle.filter_encoding.specs.Lists.{AreListed, Fits}
+use Rattle.filter_encoding.proofs.TypeLaws.{plain_of}
 use Rattle.filter_sql.specs.ColumnNames.{column_named, column_there, ColumnTree, named_place, or_numbered, typed_place}
 use Rattle.filter_sql.specs.Grammar.{and_filter, AreLiterals, bare_test, between_literals, compares, group, in_literals, in_nothing, is_not_null, is_null, IsCondition, IsFilter, IsPredicate, IsTest, like_escaped, like_pattern, more_literals, not_filter, not_test, on_column, one_conjunction, one_literal, one_operand, or_filter, predicate, prefix_call, says_false, says_null, says_true}
 use Rattle.filter_sql.specs.Literals.{begun, Condition, formula_in, missing, positions_of}
@@ -67,7 +69,7 @@ nests (negation f) (suc n) h l = nests f n h (omega (arith, l))
 -- ---- its literals
 
 -- a type is as plain as what it is without nullability
-plain-erased : (t : TypeTree) → IsPlain t → IsPlain (erase t)
+plain-erased : (t : TypeTree) → HasByte t → HasByte (erase t)
 plain-erased null_type h = tt
 plain-erased (bool_type n) h = tt
 plain-erased (integer_type k n) h = tt
@@ -75,7 +77,7 @@ plain-erased (utf8_type n) h = tt
 plain-erased (binary_type n) h = tt
 plain-erased _ h = absurd h
 
-plain-back : (t : TypeTree) → IsPlain (erase t) → IsPlain t
+plain-back : (t : TypeTree) → HasByte (erase t) → HasByte t
 plain-back null_type h = tt
 plain-back (bool_type n) h = tt
 plain-back (integer_type k n) h = tt
@@ -83,18 +85,22 @@ plain-back (utf8_type n) h = tt
 plain-back (binary_type n) h = tt
 plain-back _ h = absurd h
 
+-- a literal of a type that has a byte is of no logical type
+plain-cell : (x : Cell) → HasByte x.typed → HasNoTyped x.content → IsPlainCell x
+plain-cell x h untyped = record { plain = plain_of x.typed h; untyped = untyped; logical = λ l is. absurd (subst HasByte is.typed h) }
+
 -- where a literal stands is a cell of a type that has a byte, or none
 abbrev IsPlainSaid : PositionTree → Type 0
 IsPlainSaid (exactly x) = IsPlainCell x
 IsPlainSaid (just_above x) = IsPlainCell x
 IsPlainSaid (lacking o) = Unit {0}
 
-stands-plain : (t : TypeTree) (p : PositionTree) → IsPlain t → CellFits t p → IsUntyped p → IsPlainSaid p
-stands-plain t (exactly x) h fits untyped = record { plain = plain-back x.typed (subst IsPlain fits (plain-erased t h)); untyped = untyped }
-stands-plain t (just_above x) h fits untyped = record { plain = plain-back x.typed (subst IsPlain fits (plain-erased t h)); untyped = untyped }
+stands-plain : (t : TypeTree) (p : PositionTree) → HasByte t → CellFits t p → IsUntyped p → IsPlainSaid p
+stands-plain t (exactly x) h fits untyped = plain-cell x (plain-back x.typed (subst HasByte fits (plain-erased t h))) untyped
+stands-plain t (just_above x) h fits untyped = plain-cell x (plain-back x.typed (subst HasByte fits (plain-erased t h))) untyped
 stands-plain t (lacking o) h fits untyped = tt
 
-literal-plain : (t : TypeTree) (l : LiteralTree) (p : PositionTree) → IsPlain t → position_of t l ≡ Some p → IsPlainSaid p
+literal-plain : (t : TypeTree) (l : LiteralTree) (p : PositionTree) → HasByte t → position_of t l ≡ Some p → IsPlainSaid p
 literal-plain t l p h e = stands-plain t p h (literal_fits t l p e) (literal_untyped t l p e)
 
 -- the cells of literals are of such types, and no more than there are tokens
@@ -110,7 +116,7 @@ one-more ts us (lacking o) ps less said few = record { plain = few.plain; count 
 none-few : (t : TypeTree) (ps : List PositionTree) → positions_of t [] ≡ Some ps → AreFew [] (cells_of ps)
 none-few t ps e = let same : [] ≡ ps = cc in subst (λ (qs : List PositionTree). AreFew [] (cells_of qs)) same (record { plain = tt; count = omega arith })
 
-literals-few : (t : TypeTree) {ts : List TokenTree} {ls : List LiteralTree} → IsPlain t → AreLiterals ts ls → (ps : List PositionTree) → positions_of t ls ≡ Some ps → AreFew ts (cells_of ps)
+literals-few : (t : TypeTree) {ts : List TokenTree} {ls : List LiteralTree} → HasByte t → AreLiterals ts ls → (ps : List PositionTree) → positions_of t ls ≡ Some ps → AreFew ts (cells_of ps)
 literals-few t h (one_literal {x} {l} said) ps e =
     let p = stand_parts t l [] ps e in
     subst (λ (qs : List PositionTree). AreFew (x ∷ []) (cells_of qs)) p.whole (one-more [] (x ∷ []) p.first p.others (omega arith) (literal-plain t l p.first h p.stands) (none-few t p.others p.stand))
@@ -118,7 +124,7 @@ literals-few t h (more_literals {x} {l} {ts} {ls} said more) ps e =
     let p = stand_parts t l ls ps e in
     subst (λ (qs : List PositionTree). AreFew (x ∷ comma ∷ ts) (cells_of qs)) p.whole (one-more ts (x ∷ comma ∷ ts) p.first p.others (omega arith) (literal-plain t l p.first h p.stands) (literals-few t h more p.others p.stand))
 
-module _ (k : ℕ) (t : TypeTree) (fits : Fits k) (plain : IsPlain t) where
+module _ (k : ℕ) (t : TypeTree) (fits : Fits k) (plain : HasByte t) where
   lacking-form : (b : Bool) → HasForm (for_values b k)
   lacking-form true = (fits, tt)
   lacking-form false = (fits, tt)
@@ -224,7 +230,7 @@ right-short ts x us short = omega (arith, short, length-append ts (x ∷ us))
 
 -- each column is of a type that has a byte
 abbrev ArePlain : List ColumnTree → Type 0
-ArePlain columns = (k : ℕ) (t : TypeTree) → slice_get (types_of columns) k ≡ Some t → IsPlain t
+ArePlain columns = (k : ℕ) (t : TypeTree) → slice_get (types_of columns) k ≡ Some t → HasByte t
 
 module _ (columns : List ColumnTree) (plain : ArePlain columns) (few : length columns < 2 ^ 64) where
   place-fits : (k : ℕ) (t : TypeTree) → slice_get (types_of columns) k ≡ Some t → Fits k
@@ -268,7 +274,7 @@ tokens-few text items h =
 
 -- ---- filters of words, over columns by name and kind
 
-plain-kind : (o : Option Kind) → IsPlain (type_at o)
+plain-kind : (o : Option Kind) → HasByte (type_at o)
 plain-kind None = tt
 plain-kind (Some (Integer kind)) = tt
 plain-kind (Some Boolean) = tt
@@ -280,13 +286,13 @@ plain-kind (Some Null) = tt
 
 plain-kinds : (named : List NamedKind) → AllByRecursion IsPlain (types_of_kinds named)
 plain-kinds [] = tt
-plain-kinds (column ∷ named) = (plain-kind (kind_at column.kind), plain-kinds named)
+plain-kinds (column ∷ named) = (plain_of (type_at (kind_at column.kind)) (plain-kind (kind_at column.kind)), plain-kinds named)
 
-plain-column : (k : ℕ) (t : TypeTree) (o : Option NamedKind) → option_map (λ (c : ColumnTree). c.typed) (option_map tree_of_kind o) ≡ Some t → IsPlain t
+plain-column : (k : ℕ) (t : TypeTree) (o : Option NamedKind) → option_map (λ (c : ColumnTree). c.typed) (option_map tree_of_kind o) ≡ Some t → HasByte t
 plain-column k t None e = absurd cc
 plain-column k t (Some column) e =
     let is : type_at (kind_at column.kind) ≡ t = cc in
-    subst IsPlain is (plain-kind (kind_at column.kind))
+    subst HasByte is (plain-kind (kind_at column.kind))
 
 plain-columns : (named : List NamedKind) → ArePlain (trees_of_kinds named)
 plain-columns named k t e =

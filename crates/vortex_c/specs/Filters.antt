@@ -8,10 +8,10 @@ use Rattle.column_filters.specs.declared.errors.MaskError.{MaskError}
 use Rattle.column_filters.specs.declared.errors.MaskError.TheVariants as mask
 use Rattle.column_filters.specs.declared.errors.ZoneError.{ZoneError}
 use Rattle.column_filters.specs.declared.errors.ZoneError.TheVariants as zone
-use Rattle.filter_encoding.specs.Answers.{IsFirstWrong, IsEncoding}
-use Rattle.filter_encoding.specs.Encoding.{HasEncoding, Prepared, encoding}
+use Rattle.filter_encoding.specs.Answers.{HasNoValue, IsFirstWrong, IsEncoding}
+use Rattle.filter_encoding.specs.Encoding.{HasEncoding, IsVersion, Prepared, encoding_in}
 use Rattle.filter_encoding.specs.declared.error.FilterEncodingError.{FilterEncodingError}
-use Rattle.filter_encoding.specs.declared.error.FilterEncodingError.TheVariants.{BadBytes, NoEncoding, OutOfMemory}
+use Rattle.filter_encoding.specs.declared.error.FilterEncodingError.TheVariants.{BadBytes, NoEncoding, NotAValue, OutOfMemory}
 use Rattle.vortex_c.specs.ColumnErrors.{place_in_column, status_of_column}
 use Rattle.vortex_c.specs.declared.fault.Fault.{Fault}
 use Rattle.vortex_c.specs.declared.filters.RowsError.{RowsError}
@@ -24,25 +24,30 @@ use Rattle.vortex_c.specs.declared.status.TheConstants.{BAD_BYTES, BAD_OFFSETS, 
 
 -- the bytes are the encoding of this prepared filter, in which at most n connectives nest
 pub record IsEncodingOf (n : ℕ) (bytes : List ℕ) (p : Prepared) : Type 0 where
+  pub version : ℕ
+  pub is_version : IsVersion version
   pub has_encoding : HasEncoding n p
-  pub is : bytes ≡ encoding p
+  pub is : bytes ≡ encoding_in version p
 
 -- why bytes are not read as such a filter
 abbrev pub IsUnread : ℕ → List ℕ → FilterEncodingError → Type 0
 IsUnread n bytes OutOfMemory = Unit {0}
 IsUnread n bytes NoEncoding = ⊥
 IsUnread n bytes (BadBytes place) = IsFirstWrong (IsEncoding n) bytes place
+IsUnread n bytes (NotAValue place) = HasNoValue n bytes
 
 abbrev pub status_of_encoding_fault : FilterEncodingError → ℕ
 status_of_encoding_fault OutOfMemory = NO_MEMORY
 status_of_encoding_fault NoEncoding = BAD_BYTES
 status_of_encoding_fault (BadBytes place) = BAD_BYTES
+status_of_encoding_fault (NotAValue place) = BAD_BYTES
 
 -- told of this column, which is past the last one
 abbrev pub fault_of_encoding_fault : ℕ → FilterEncodingError → Fault → Fault
 fault_of_encoding_fault column OutOfMemory before = before
 fault_of_encoding_fault column NoEncoding before = record { column = column; place = 0 }
 fault_of_encoding_fault column (BadBytes place) before = record { column = column; place = place }
+fault_of_encoding_fault column (NotAValue place) before = record { column = column; place = place }
 
 -- ---- rows
 

@@ -43,13 +43,14 @@ pub(crate) enum ZonesError {
 /// `depth` is how deep the words might nest that the filter was prepared from: `2 * depth + 5`
 /// connectives may nest in the encoding.
 ///
-/// - `BAD_BYTES`: the filter is no encoding that nests so deep at most. `fault` has the number of
-///   columns, and the first byte that none has there.
+/// - `BAD_BYTES`: the filter is no encoding that nests so deep at most, or a literal in it is no
+///   value of its logical type. `fault` has the number of columns, and the first byte that no such
+///   encoding has there, or where the key of that literal begins.
+/// - `BUFFER_TOO_SMALL`: the buffer has not a bit for each row. `fault` is not written.
 /// - `WRONG_LENGTH`: there are not as many columns as the filter has, and `fault` has their number;
 ///   or a column has another number of rows.
 /// - `UNKNOWN_KIND`: the kind of a column is none, or with place 1 is not the filter's.
 /// - `TOO_MANY_ROWS`, `TOO_SHORT`, `BAD_OFFSETS`, `NOT_UTF8`: a column cannot be read.
-/// - `BUFFER_TOO_SMALL`: the buffer has not a bit for each row. `fault` is not written.
 /// - `NO_MEMORY`: `fault` is not written, and the bits may say anything.
 #[unsafe(no_mangle)]
 pub extern "C" fn doqallin_filter_mask(
@@ -144,7 +145,8 @@ fn mask_by(
 ///
 /// - `BAD_BYTES`: a piece is no encoding of statistics of its column's kind. `fault.column` is the
 ///   piece, and `fault.place` its first byte that none has there. If the filter is no encoding
-///   that nests so deep at most, `fault.column` is the number of offsets.
+///   that nests so deep at most, or a literal in it is no value of its logical type, `fault.column`
+///   is the number of offsets.
 /// - `WRONG_LENGTH`: there are not as many offsets as pieces, and one more. `fault.column` is their
 ///   number.
 /// - `BAD_OFFSETS`: the offsets of the piece `fault.column` go down, or past the end.
@@ -247,6 +249,7 @@ fn tell_unread(cause: FilterEncodingError, column: usize, fault: &mut Fault) -> 
         FilterEncodingError::OutOfMemory => NO_MEMORY,
         FilterEncodingError::NoEncoding => at(column, 0, fault, BAD_BYTES),
         FilterEncodingError::BadBytes { offset } => at(column, offset, fault, BAD_BYTES),
+        FilterEncodingError::NotAValue { offset } => at(column, offset, fault, BAD_BYTES),
     }
 }
 

@@ -22,6 +22,8 @@ pub struct Indexed {
     /// How many fields stand as a null since their columns do not take them, as far as 64 bits
     /// count.
     pub nulls: u64,
+    /// How many records have more fields than columns, as far as 64 bits count.
+    pub longer: u64,
 }
 
 /// The zones of all records that a reader has left, so many records in each, the last one fewer.
@@ -50,6 +52,9 @@ pub fn index_records<B: BufRead, D: Describer>(
     ensures nulls { IfOk result (λ indexed. (bytes : List ℕ) → B.remaining reader.old ≡ Some bytes
         → indexed.nulls ≡ told (sum_by (D.nulls_of describer.now)
         (records_of (D.delimiter describer.now) bytes))) }
+    ensures longer { IfOk result (λ indexed. (bytes : List ℕ) → B.remaining reader.old ≡ Some bytes
+        → indexed.longer ≡ told (sum_by (D.longer_of describer.now)
+        (records_of (D.delimiter describer.now) bytes))) }
     ensures reading { IfErr result (λ fault. fault ≢ FailedWrite) }
     ensures uncut { IfErr result (λ fault. fault ≢ CutShort) }
     ensures far { IfErr result (λ fault. fault ≡ TooFar → EndsFar start (B.remaining reader.old)) }
@@ -69,35 +74,43 @@ pub fn index_records<B: BufRead, D: Describer>(
     let mut text = Vec::new(alloc);
     let mut first = start;
     let mut nulls = 0u64;
+    let mut longer = 0u64;
     loop {
         text.clear();
         take_records(delimiter, size, &mut text, reader)?;
         if text.is_empty() {
-            return Ok(Indexed { zones, nulls });
+            return Ok(Indexed {
+                zones,
+                nulls,
+                longer,
+            });
         }
-        let (zone, more) = zone_of(alloc, first, &text, describer)?;
+        let (zone, more_nulls, more_longer) = zone_of(alloc, first, &text, describer)?;
         match first.checked_add(zone.length) {
             Some(next) => first = next,
             None => return Err(SearchError::TooFar),
         }
-        nulls = nulls.saturating_add(more);
+        nulls = nulls.saturating_add(more_nulls);
+        longer = longer.saturating_add(more_longer);
         zones.push(zone)?;
     }
 }
 
-/// The zone of a text that begins here, and how many of its fields stand as a null since their
-/// columns do not take them.
+/// The zone of a text that begins here, how many of its fields stand as a null since their columns do
+/// not take them, and how many of its records have more fields than columns.
 fn zone_of<D: Describer>(
     alloc: Global,
     first: u64,
     text: &[u8],
     describer: &D,
-) -> Result<(Zone, u64), SearchError>
+) -> Result<(Zone, u64, u64), SearchError>
     ensures zone { IfOk result (λ made. IsZoneOfText (D.delimiter describer.now) (D.has_row describer.now)
         (D.Describes describer.now) first text.now made.0) }
     ensures full { IfOk result (λ made. IsZoneOfText (D.delimiter describer.now) (D.has_row describer.now)
         (D.DescribesFully describer.now) first text.now made.0) }
     ensures nulls { IfOk result (λ made. made.1 ≡ told (sum_by (D.nulls_of describer.now)
+        (records_of (D.delimiter describer.now) text.now))) }
+    ensures longer { IfOk result (λ made. made.2 ≡ told (sum_by (D.longer_of describer.now)
         (records_of (D.delimiter describer.now) text.now))) }
     ensures why { IfErr result IsOfRecord }
     ensures refused { IfErr result (IfRefused (TellsOneOf (D.Refuses describer.now) first
@@ -114,6 +127,7 @@ fn zone_of<D: Describer>(
                 rows,
                 statistics,
                 nulls,
+                longer,
             } = described;
             let zone = Zone {
                 first,
@@ -122,7 +136,7 @@ fn zone_of<D: Describer>(
                 rows,
                 statistics,
             };
-            Ok((zone, nulls))
+            Ok((zone, nulls, longer))
         }
         Err(fault) => Err(fault.at(first)),
     }

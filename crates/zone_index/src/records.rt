@@ -38,6 +38,8 @@ pub struct Described {
     /// How many fields of them stand as a null since their columns do not take them. An index does
     /// not keep it.
     pub nulls: u64,
+    /// How many of them have more fields than columns. An index does not keep it.
+    pub longer: u64,
 }
 
 /// What records are.
@@ -64,6 +66,8 @@ pub trait Describer: Records {
     ghost DescribesFully: { Self → List ℕ → List (List ℕ) → Type 0 };
     // How many fields of a record stand as a null since their columns do not take them.
     ghost nulls_of: { Self → List ℕ → ℕ };
+    // 1 of a record that has more fields than columns, else 0.
+    ghost longer_of: { Self → List ℕ → ℕ };
 
     /// What is known of the records of a text. `Refused` with the offset in the text of the first
     /// record that is refused, exactly if one is.
@@ -77,6 +81,8 @@ pub trait Describer: Records {
         ensures full { IfOk result (λ d. DescribesFully self.now d.statistics.items
             (records_of (Self.delimiter self.now) text.now)) }
         ensures nulls { IfOk result (λ d. d.nulls ≡ told (sum_by (nulls_of self.now)
+            (records_of (Self.delimiter self.now) text.now))) }
+        ensures longer { IfOk result (λ d. d.longer ≡ told (sum_by (longer_of self.now)
             (records_of (Self.delimiter self.now) text.now))) }
         ensures passed { OnOk result (before_refused (Self.is_refused self.now)
             (records_of (Self.delimiter self.now) text.now) ≡ None) }

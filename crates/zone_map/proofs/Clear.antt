@@ -1,15 +1,20 @@
 -- Texts without a byte, and where they are cut at one.
-use Rattle.std.proofs.Common.{◌≡◌, ◌≢◌, ◌<◌, ◌≤◌, ◌^◌, ℕ, Bool, true, false, cond, eqb, List, [], ◌∷◌, ◌++◌, length, subst, arith, ◌∙◌, ap, sym, refl}
-use Rattle.std.specs.Prelude.{All, Err, None, Ok, Result, Some}
+use Rattle.std.proofs.Common.{◌≡◌, ◌≢◌, ◌<◌, ◌≤◌, ◌^◌, ℕ, zero, suc, Bool, true, false, cond, eqb, List, [], ◌∷◌, ◌++◌, length, get_or, subst, arith, ◌∙◌, ap, sym, refl}
+use Rattle.std.specs.Prelude.{All, Err, None, Ok, Result, Some, codes}
 use Rattle.std.specs.Char.{digit_value}
 use Rattle.std.specs.Fmt.{decimal}
 use Rattle.std.specs.Str.Parse.{AllDigits}
+use Rattle.std.proofs.lemmas.Bool.{ne_eqb}
 use Rattle.std.proofs.lemmas.Fmt.{decimal_is_IsNumeral}
 use Rattle.std.proofs.lemmas.List.{append_assoc, length-append, map-append}
 use Rattle.std.proofs.lemmas.List.Elements.{All-append, All-cons, All-nil}
 use Rattle.zone_map.specs.Names.{IsName}
 use Rattle.zone_map.specs.declared.column_words.NamedColumn.{NamedColumn}
 use Rattle.zone_map.specs.Setups.{ColumnValue, FitNumbers, HaveNames, column_line, column_lines, column_value, column_values, kind_text, kind_word, mark_of, numbers_text}
+use Rattle.logical_types.specs.Names.{decimal_name}
+use Rattle.logical_types.specs.declared.times.TimeUnit.TheVariants.{Seconds, Milliseconds, Microseconds, Nanoseconds}
+use Rattle.logical_types.specs.declared.logical.DecimalType.{DecimalType}
+use Rattle.logical_types.specs.declared.logical.LogicalType.TheVariants.{Float64, Float32, Decimal, Date, Time, Timestamp}
 use Rattle.record_rows.specs.declared.schema.ColumnType.{ColumnType}
 use Rattle.record_rows.specs.declared.schema.Kind.{Kind}
 use Rattle.record_rows.specs.declared.schema.Kind.TheVariants as kinds
@@ -42,50 +47,132 @@ pub lacks_from : (c : ℕ) (xs : List ℕ) → has c xs ≡ false → Lacks c xs
 lacks_from c [] e = All-nil (λ b. b ≢ c)
 lacks_from c (x ∷ xs) e = All-cons (λ b. b ≢ c) x xs (λ is. grind (arith, e, is)) (lacks_from c xs (grind (arith, e)))
 
--- a kind has neither a blank nor a line feed
+-- what two texts lack, they lack together
+has_more : (c x : ℕ) (xs ys : List ℕ) (t : Bool) → eqb x c ≡ t → cond t true (has c xs) ≡ false → (has c xs ≡ false → has c (xs ++ ys) ≡ false) → has c (x ∷ (xs ++ ys)) ≡ false
+has_more c x xs ys true e h more = absurd cc
+has_more c x xs ys false e h more = rw e (more h)
+
+pub has_append : (c : ℕ) (xs ys : List ℕ) → has c xs ≡ false → has c ys ≡ false → has c (xs ++ ys) ≡ false
+has_append c [] ys a b = b
+has_append c (x ∷ xs) ys a b = has_more c x xs ys (eqb x c) refl a (λ h. has_append c xs ys h b)
+
+digits_have_none : (c : ℕ) → 10 ≤ digit_value c → (ds : List ℕ) → AllDigits 10 ds → has c ds ≡ false
+digits_have_none c high [] all = refl
+digits_have_none c high (d ∷ ds) all =
+    rw (ne_eqb d c (λ e. let low : digit_value c < 10 = subst (λ (x : ℕ). digit_value x < 10) e all.0 in omega arith)) (digits_have_none c high ds all.1)
+
+pub decimal_has_none : (c : ℕ) → 10 ≤ digit_value c → (n : ℕ) → n < 2 ^ 64 → has c (decimal n) ≡ false
+decimal_has_none c high n small = digits_have_none c high (decimal n) ((decimal_is_IsNumeral n small).0.1)
+
+-- the name of a type of decimals lacks a byte that is no digit and in none of its other parts
+pub decimals_lack : (c : ℕ) → 10 ≤ digit_value c → has c (codes "decimal(") ≡ false → has c (44 ∷ []) ≡ false → has c (41 ∷ []) ≡ false → (d : DecimalType) → has c (decimal_name d) ≡ false
+decimals_lack c high front comma close d =
+    has_append c (codes "decimal(") _ front
+    (has_append c (decimal d.precision) _ (decimal_has_none c high d.precision (omega (arith, d.small)))
+    (has_append c (44 ∷ []) _ comma
+    (has_append c (decimal d.scale) (41 ∷ []) (decimal_has_none c high d.scale (omega (arith, d.small, d.within))) close)))
+
+-- the word for a kind has no blank, no line feed and no question mark
+pub word_lacks_blank : (k : Kind) → has 32 (kind_word k) ≡ false
+word_lacks_blank (kinds.Integer ptypes.I8) = refl
+word_lacks_blank (kinds.Integer ptypes.I16) = refl
+word_lacks_blank (kinds.Integer ptypes.I32) = refl
+word_lacks_blank (kinds.Integer ptypes.I64) = refl
+word_lacks_blank (kinds.Integer ptypes.U8) = refl
+word_lacks_blank (kinds.Integer ptypes.U16) = refl
+word_lacks_blank (kinds.Integer ptypes.U32) = refl
+word_lacks_blank (kinds.Integer ptypes.U64) = refl
+word_lacks_blank kinds.Utf8 = refl
+word_lacks_blank kinds.Binary = refl
+word_lacks_blank kinds.Bytes = refl
+word_lacks_blank (kinds.Logical Float64) = refl
+word_lacks_blank (kinds.Logical Float32) = refl
+word_lacks_blank (kinds.Logical Date) = refl
+word_lacks_blank (kinds.Logical (Time Seconds)) = refl
+word_lacks_blank (kinds.Logical (Time Milliseconds)) = refl
+word_lacks_blank (kinds.Logical (Time Microseconds)) = refl
+word_lacks_blank (kinds.Logical (Time Nanoseconds)) = refl
+word_lacks_blank (kinds.Logical (Timestamp Seconds false)) = refl
+word_lacks_blank (kinds.Logical (Timestamp Milliseconds false)) = refl
+word_lacks_blank (kinds.Logical (Timestamp Microseconds false)) = refl
+word_lacks_blank (kinds.Logical (Timestamp Nanoseconds false)) = refl
+word_lacks_blank (kinds.Logical (Timestamp Seconds true)) = refl
+word_lacks_blank (kinds.Logical (Timestamp Milliseconds true)) = refl
+word_lacks_blank (kinds.Logical (Timestamp Microseconds true)) = refl
+word_lacks_blank (kinds.Logical (Timestamp Nanoseconds true)) = refl
+word_lacks_blank (kinds.Logical (Decimal d)) = decimals_lack 32 (omega arith) refl refl refl d
+
+pub word_lacks_feed : (k : Kind) → has 10 (kind_word k) ≡ false
+word_lacks_feed (kinds.Integer ptypes.I8) = refl
+word_lacks_feed (kinds.Integer ptypes.I16) = refl
+word_lacks_feed (kinds.Integer ptypes.I32) = refl
+word_lacks_feed (kinds.Integer ptypes.I64) = refl
+word_lacks_feed (kinds.Integer ptypes.U8) = refl
+word_lacks_feed (kinds.Integer ptypes.U16) = refl
+word_lacks_feed (kinds.Integer ptypes.U32) = refl
+word_lacks_feed (kinds.Integer ptypes.U64) = refl
+word_lacks_feed kinds.Utf8 = refl
+word_lacks_feed kinds.Binary = refl
+word_lacks_feed kinds.Bytes = refl
+word_lacks_feed (kinds.Logical Float64) = refl
+word_lacks_feed (kinds.Logical Float32) = refl
+word_lacks_feed (kinds.Logical Date) = refl
+word_lacks_feed (kinds.Logical (Time Seconds)) = refl
+word_lacks_feed (kinds.Logical (Time Milliseconds)) = refl
+word_lacks_feed (kinds.Logical (Time Microseconds)) = refl
+word_lacks_feed (kinds.Logical (Time Nanoseconds)) = refl
+word_lacks_feed (kinds.Logical (Timestamp Seconds false)) = refl
+word_lacks_feed (kinds.Logical (Timestamp Milliseconds false)) = refl
+word_lacks_feed (kinds.Logical (Timestamp Microseconds false)) = refl
+word_lacks_feed (kinds.Logical (Timestamp Nanoseconds false)) = refl
+word_lacks_feed (kinds.Logical (Timestamp Seconds true)) = refl
+word_lacks_feed (kinds.Logical (Timestamp Milliseconds true)) = refl
+word_lacks_feed (kinds.Logical (Timestamp Microseconds true)) = refl
+word_lacks_feed (kinds.Logical (Timestamp Nanoseconds true)) = refl
+word_lacks_feed (kinds.Logical (Decimal d)) = decimals_lack 10 (omega arith) refl refl refl d
+
+pub word_lacks_mark : (k : Kind) → has 63 (kind_word k) ≡ false
+word_lacks_mark (kinds.Integer ptypes.I8) = refl
+word_lacks_mark (kinds.Integer ptypes.I16) = refl
+word_lacks_mark (kinds.Integer ptypes.I32) = refl
+word_lacks_mark (kinds.Integer ptypes.I64) = refl
+word_lacks_mark (kinds.Integer ptypes.U8) = refl
+word_lacks_mark (kinds.Integer ptypes.U16) = refl
+word_lacks_mark (kinds.Integer ptypes.U32) = refl
+word_lacks_mark (kinds.Integer ptypes.U64) = refl
+word_lacks_mark kinds.Utf8 = refl
+word_lacks_mark kinds.Binary = refl
+word_lacks_mark kinds.Bytes = refl
+word_lacks_mark (kinds.Logical Float64) = refl
+word_lacks_mark (kinds.Logical Float32) = refl
+word_lacks_mark (kinds.Logical Date) = refl
+word_lacks_mark (kinds.Logical (Time Seconds)) = refl
+word_lacks_mark (kinds.Logical (Time Milliseconds)) = refl
+word_lacks_mark (kinds.Logical (Time Microseconds)) = refl
+word_lacks_mark (kinds.Logical (Time Nanoseconds)) = refl
+word_lacks_mark (kinds.Logical (Timestamp Seconds false)) = refl
+word_lacks_mark (kinds.Logical (Timestamp Milliseconds false)) = refl
+word_lacks_mark (kinds.Logical (Timestamp Microseconds false)) = refl
+word_lacks_mark (kinds.Logical (Timestamp Nanoseconds false)) = refl
+word_lacks_mark (kinds.Logical (Timestamp Seconds true)) = refl
+word_lacks_mark (kinds.Logical (Timestamp Milliseconds true)) = refl
+word_lacks_mark (kinds.Logical (Timestamp Microseconds true)) = refl
+word_lacks_mark (kinds.Logical (Timestamp Nanoseconds true)) = refl
+word_lacks_mark (kinds.Logical (Decimal d)) = decimals_lack 63 (omega arith) refl refl refl d
+
+mark_lacks_blank : (n : Nullability) → has 32 (mark_of n) ≡ false
+mark_lacks_blank Nullable = refl
+mark_lacks_blank NonNullable = refl
+
 pub kind_lacks_blank : (k : Kind) (n : Nullability) → has 32 (kind_word k ++ mark_of n) ≡ false
-kind_lacks_blank (kinds.Integer ptypes.I8) Nullable = refl
-kind_lacks_blank (kinds.Integer ptypes.I8) NonNullable = refl
-kind_lacks_blank (kinds.Integer ptypes.I16) Nullable = refl
-kind_lacks_blank (kinds.Integer ptypes.I16) NonNullable = refl
-kind_lacks_blank (kinds.Integer ptypes.I32) Nullable = refl
-kind_lacks_blank (kinds.Integer ptypes.I32) NonNullable = refl
-kind_lacks_blank (kinds.Integer ptypes.I64) Nullable = refl
-kind_lacks_blank (kinds.Integer ptypes.I64) NonNullable = refl
-kind_lacks_blank (kinds.Integer ptypes.U8) Nullable = refl
-kind_lacks_blank (kinds.Integer ptypes.U8) NonNullable = refl
-kind_lacks_blank (kinds.Integer ptypes.U16) Nullable = refl
-kind_lacks_blank (kinds.Integer ptypes.U16) NonNullable = refl
-kind_lacks_blank (kinds.Integer ptypes.U32) Nullable = refl
-kind_lacks_blank (kinds.Integer ptypes.U32) NonNullable = refl
-kind_lacks_blank (kinds.Integer ptypes.U64) Nullable = refl
-kind_lacks_blank (kinds.Integer ptypes.U64) NonNullable = refl
-kind_lacks_blank kinds.Utf8 Nullable = refl
-kind_lacks_blank kinds.Utf8 NonNullable = refl
-kind_lacks_blank kinds.Binary Nullable = refl
-kind_lacks_blank kinds.Binary NonNullable = refl
+kind_lacks_blank k n = has_append 32 (kind_word k) (mark_of n) (word_lacks_blank k) (mark_lacks_blank n)
+
+mark_lacks_feed : (n : Nullability) → has 10 (mark_of n) ≡ false
+mark_lacks_feed Nullable = refl
+mark_lacks_feed NonNullable = refl
 
 pub kind_lacks_feed : (k : Kind) (n : Nullability) → has 10 (kind_word k ++ mark_of n) ≡ false
-kind_lacks_feed (kinds.Integer ptypes.I8) Nullable = refl
-kind_lacks_feed (kinds.Integer ptypes.I8) NonNullable = refl
-kind_lacks_feed (kinds.Integer ptypes.I16) Nullable = refl
-kind_lacks_feed (kinds.Integer ptypes.I16) NonNullable = refl
-kind_lacks_feed (kinds.Integer ptypes.I32) Nullable = refl
-kind_lacks_feed (kinds.Integer ptypes.I32) NonNullable = refl
-kind_lacks_feed (kinds.Integer ptypes.I64) Nullable = refl
-kind_lacks_feed (kinds.Integer ptypes.I64) NonNullable = refl
-kind_lacks_feed (kinds.Integer ptypes.U8) Nullable = refl
-kind_lacks_feed (kinds.Integer ptypes.U8) NonNullable = refl
-kind_lacks_feed (kinds.Integer ptypes.U16) Nullable = refl
-kind_lacks_feed (kinds.Integer ptypes.U16) NonNullable = refl
-kind_lacks_feed (kinds.Integer ptypes.U32) Nullable = refl
-kind_lacks_feed (kinds.Integer ptypes.U32) NonNullable = refl
-kind_lacks_feed (kinds.Integer ptypes.U64) Nullable = refl
-kind_lacks_feed (kinds.Integer ptypes.U64) NonNullable = refl
-kind_lacks_feed kinds.Utf8 Nullable = refl
-kind_lacks_feed kinds.Utf8 NonNullable = refl
-kind_lacks_feed kinds.Binary Nullable = refl
-kind_lacks_feed kinds.Binary NonNullable = refl
+kind_lacks_feed k n = has_append 10 (kind_word k) (mark_of n) (word_lacks_feed k) (mark_lacks_feed n)
 
 -- the line of a column, without its line feed
 abbrev pub column_words : ColumnValue → List ℕ

@@ -8,10 +8,14 @@ use Rattle.std.specs.Global.{Global}
 abbrev pub texts : List (String Global) → List (List ℕ)
 texts names = map string_bytes names
 
+-- a text without a line feed
+abbrev pub IsLine : List ℕ → Type 0
+IsLine text = All (λ b. b ≢ 10) text
+
 -- a column may have this name: it has a byte, and no line feed
 pub record IsName (name : List ℕ) : Type 0 where
   pub some : 0 < length name
-  pub one_line : All (λ b. b ≢ 10) name
+  pub one_line : IsLine name
 
 -- each name that is given to a column is kept, if it is one and no column before is given the same
 abbrev pub KeepsNames : List (List ℕ) → List (List ℕ) → Type 0

@@ -2,7 +2,8 @@
 use Rattle.std.specs.Prelude.{◌<◌, ◌^◌, ◌++◌, ◌∷◌, ℕ, List, [], codes, map, string_bytes, if◌then◌else◌}
 use Rattle.std.specs.List.{AllByRecursion, flat_map}
 use Rattle.std.specs.Fmt.{decimal}
-use Rattle.zone_map.specs.Names.{IsName}
+use Rattle.zone_map.specs.Names.{IsLine, IsName, texts}
+use Rattle.logical_types.specs.Names.{name_of}
 use Rattle.record_rows.specs.declared.schema.ColumnType.{ColumnType}
 use Rattle.record_rows.specs.declared.schema.Kind.{Kind}
 use Rattle.record_rows.specs.declared.schema.Kind.TheVariants as kinds
@@ -21,6 +22,7 @@ pub record ColumnValue : Type 0 where
 -- a setup without where it lies in memory
 pub record SetupValue : Type 0 where
   pub numbers : Numbers
+  pub nulls : List (List ℕ)
   pub columns : List ColumnValue
 
 abbrev pub column_value : NamedColumn → ColumnValue
@@ -30,7 +32,7 @@ abbrev pub column_values : List NamedColumn → List ColumnValue
 column_values columns = map column_value columns
 
 abbrev pub setup_value : Setup → SetupValue
-setup_value setup = record { numbers = setup.numbers; columns = column_values setup.columns.items }
+setup_value setup = record { numbers = setup.numbers; nulls = texts setup.nulls.items; columns = column_values setup.columns.items }
 
 -- the word for a kind
 abbrev pub kind_word : Kind → List ℕ
@@ -44,6 +46,16 @@ kind_word (kinds.Integer ptypes.U32) = codes "u32"
 kind_word (kinds.Integer ptypes.U64) = codes "u64"
 kind_word kinds.Utf8 = codes "utf8"
 kind_word kinds.Binary = codes "binary"
+kind_word kinds.Bytes = codes "bytes"
+kind_word (kinds.Logical logical) = name_of logical
+
+-- a kind without a logical type
+abbrev pub IsPlain : Kind → Type 0
+IsPlain (kinds.Integer ptype) = Unit {0}
+IsPlain kinds.Utf8 = Unit {0}
+IsPlain kinds.Binary = Unit {0}
+IsPlain kinds.Bytes = Unit {0}
+IsPlain (kinds.Logical logical) = ⊥
 
 -- a question mark if the column takes nulls
 abbrev pub mark_of : Nullability → List ℕ
@@ -64,8 +76,19 @@ column_line c = kind_text c.column ++ 32 ∷ (c.name ++ 10 ∷ [])
 abbrev pub column_lines : List ColumnValue → List ℕ
 column_lines columns = flat_map column_line columns
 
+-- a word that is a null, behind the word for that, and a line feed
+abbrev pub null_line : List ℕ → List ℕ
+null_line null = codes "null " ++ (null ++ 10 ∷ [])
+
+abbrev pub null_lines : List (List ℕ) → List ℕ
+null_lines nulls = flat_map null_line nulls
+
+-- a setup without the words that are nulls
+abbrev pub setup_lines : SetupValue → List ℕ
+setup_lines s = numbers_text s.numbers ++ 10 ∷ column_lines s.columns
+
 abbrev pub setup_text : SetupValue → List ℕ
-setup_text s = numbers_text s.numbers ++ 10 ∷ column_lines s.columns
+setup_text s = null_lines s.nulls ++ setup_lines s
 
 -- the numbers are those of their types
 pub record FitNumbers (n : Numbers) : Type 0 where
@@ -76,7 +99,11 @@ pub record FitNumbers (n : Numbers) : Type 0 where
 abbrev pub HaveNames : List ColumnValue → Type 0
 HaveNames columns = AllByRecursion (λ c. IsName c.name) columns
 
--- a setup whose text is read back: each column has a name
+abbrev pub AreLines : List (List ℕ) → Type 0
+AreLines words = AllByRecursion IsLine words
+
+-- a setup whose text is read back: each column has a name, and each word that is a null is of one line
 pub record IsSetup (s : SetupValue) : Type 0 where
   pub numbers : FitNumbers s.numbers
+  pub nulls : AreLines s.nulls
   pub names : HaveNames s.columns

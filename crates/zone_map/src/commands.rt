@@ -15,20 +15,22 @@ Example:
 
 /// What the help of a command ends with that makes an index.
 const ABOUT_COLUMNS: &str =
-    "Kinds are i8, i16, i32, i64, u8, u16, u32 and u64 in decimal, utf8, and binary in hexadecimal digits. \
+    "Kinds are i8, i16, i32, i64, u8, u16, u32 and u64 in decimal, f64, f32, decimal(10,2), date, time(us), timestamp(us), \
+    timestamp(us,UTC), utf8, bytes as they are, and binary in hexadecimal digits; units are s, ms, us and ns. \
     A name with other than letters, digits, _ and $ stands in double quotes. \
-    Without --columns the kinds are guessed from the first 1000 records, and told.";
+    Without --columns the kinds are guessed from the first 1000 records, and told. So are those of columns that --columns leaves out \
+    and --header names.";
 
 /// What the help of a command ends with that searches.
 const ABOUT_FILTERS: &str =
     "Filters compare a column with a literal by = <> != < <= > >=, between .. and .., in (..), like 'abc%', is null, \
-    and join tests by and, or, not and parentheses. Literals are 12, 'text', x'00ff' and null. \
+    and join tests by and, or, not and parentheses. Literals are 12, 10.5, 'text', '2026-03-01', x'00ff' and null. \
     Columns are names, in double quotes where they are no words, or $1, $2 ..; of a file without named columns, line is the whole line.
 
-Without FILE.zones, and with --whole, --columns, --delimiter, --header or --lenient, the file is searched whole.";
+Without FILE.zones, and with --whole, --columns, --delimiter, --header, --null or --lenient, the file is searched whole.";
 
 /// What the words ask for.
-#[derive(Clone, Copy)]
+#[derive(Drop)]
 pub enum Asked<'a> {
     /// An index of a file.
     Index(IndexRequest<'a>),
@@ -39,7 +41,7 @@ pub enum Asked<'a> {
 }
 
 /// What the words say of how records are to be read.
-#[derive(Clone, Copy)]
+#[derive(Drop)]
 pub struct Reading<'a> {
     /// The columns: a name and a kind each. They are guessed if this is not said.
     pub columns: Option<&'a str>,
@@ -49,17 +51,22 @@ pub struct Reading<'a> {
     pub has_header: bool,
     /// Whether a field that its column does not take is a null, where the column takes nulls.
     pub is_lenient: bool,
+    /// The words that are nulls, in columns that take nulls.
+    pub nulls: Vec<&'a str>,
 }
 
 impl Reading<'_> {
     /// Whether anything is said of it.
     pub fn is_said(&self) -> bool {
-        self.columns.is_some() || self.delimiter.is_some() || self.has_header || self.is_lenient
+        let says_words = self.columns.is_some()
+            || self.delimiter.is_some()
+            || !self.nulls.is_empty();
+        says_words || self.has_header || self.is_lenient
     }
 }
 
 /// How a file is to be indexed.
-#[derive(Clone, Copy)]
+#[derive(Drop)]
 pub struct IndexRequest<'a> {
     /// The file.
     pub file: &'a str,
@@ -85,7 +92,7 @@ pub enum Wanted {
 }
 
 /// What is to be sought in a file.
-#[derive(Clone, Copy)]
+#[derive(Drop)]
 pub struct SearchRequest<'a> {
     /// The file, or `-` for standard input.
     pub file: &'a str,
@@ -106,50 +113,75 @@ pub struct SearchRequest<'a> {
 /// What the words ask for, or what is wrong with them. The first word is the name of the program.
 pub fn asked_in<'a>(alloc: Global, words: &'a [String]) -> Result<Asked<'a>, Error> {
     let mut command = command(alloc)?;
-    let asked = asked_of(&mut command, words);
+    let asked = asked_of(alloc, &mut command, words);
     drop(command);
     asked
 }
 
 /// What the words ask for by a command line.
-fn asked_of<'a>(command: &mut Command<'a>, words: &'a [String]) -> Result<Asked<'a>, Error> {
+fn asked_of<'a>(
+    alloc: Global,
+    command: &mut Command<'a>,
+    words: &'a [String],
+) -> Result<Asked<'a>, Error> {
     let matches = command.try_get_matches_from_mut(words)?;
-    let asked = request_in(&matches);
+    let asked = request_in(alloc, &matches);
     drop(matches);
-    match asked {
+    match asked? {
         Some(asked) => Ok(asked),
         None => Err(command.error(ErrorKind::MissingSubcommand, "a command is missing")?),
     }
 }
 
 /// What is asked for by the words that were matched.
-fn request_in<'a>(matches: &ArgMatches<'a>) -> Option<Asked<'a>> {
+fn request_in<'a>(
+    alloc: Global,
+    matches: &ArgMatches<'a>,
+) -> Result<Option<Asked<'a>>, AllocError> {
     match matches.subcommand() {
-        Some(("index", matches)) => index_in(matches).map(Asked::Index),
-        Some(("find", matches)) => search_in(matches, rows_wanted(matches)).map(Asked::Search),
-        Some(("count", matches)) => search_in(matches, Wanted::Count).map(Asked::Search),
-        Some(("show", matches)) => matches.get_str("file").map(Asked::Show),
-        _ => None,
+        Some(("index", matches)) => {
+            let reading = reading_in(alloc, matches)?;
+            Ok(index_in(matches, reading).map(Asked::Index))
+        }
+        Some(("find", matches)) => {
+            let reading = reading_in(alloc, matches)?;
+            Ok(search_in(matches, reading, rows_wanted(matches)).map(Asked::Search))
+        }
+        Some(("count", matches)) => {
+            let reading = reading_in(alloc, matches)?;
+            Ok(search_in(matches, reading, Wanted::Count).map(Asked::Search))
+        }
+        Some(("show", matches)) => Ok(matches.get_str("file").map(Asked::Show)),
+        _ => Ok(None),
     }
 }
 
 /// How a file is to be indexed.
-fn index_in<'a>(matches: &ArgMatches<'a>) -> Option<IndexRequest<'a>> {
+fn index_in<'a>(matches: &ArgMatches<'a>, reading: Reading<'a>) -> Option<IndexRequest<'a>> {
+    let file = matches.get_str("file")?;
+    let rows = matches.get_one::<u64>("rows")?;
+    let bound_length = matches.get_one::<usize>("bytes")?;
     Some(IndexRequest {
-        file: matches.get_str("file")?,
-        reading: reading_in(matches),
-        rows: matches.get_one::<u64>("rows")?,
-        bound_length: matches.get_one::<usize>("bytes")?,
+        file,
+        reading,
+        rows,
+        bound_length,
         appends: matches.get_flag("append"),
     })
 }
 
 /// What is to be sought.
-fn search_in<'a>(matches: &ArgMatches<'a>, wanted: Wanted) -> Option<SearchRequest<'a>> {
+fn search_in<'a>(
+    matches: &ArgMatches<'a>,
+    reading: Reading<'a>,
+    wanted: Wanted,
+) -> Option<SearchRequest<'a>> {
+    let file = matches.get_str("file")?;
+    let filter = matches.get_str("filter")?;
     Some(SearchRequest {
-        file: matches.get_str("file")?,
-        filter: matches.get_str("filter")?,
-        reading: reading_in(matches),
+        file,
+        filter,
+        reading,
         is_whole: matches.get_flag("whole"),
         may_have_grown: matches.get_flag("grown"),
         wanted,
@@ -167,13 +199,14 @@ fn rows_wanted(matches: &ArgMatches<'_>) -> Wanted {
 }
 
 /// How records are to be read.
-fn reading_in<'a>(matches: &ArgMatches<'a>) -> Reading<'a> {
-    Reading {
+fn reading_in<'a>(alloc: Global, matches: &ArgMatches<'a>) -> Result<Reading<'a>, AllocError> {
+    Ok(Reading {
         columns: matches.get_str("columns"),
         delimiter: matches.get_str("delimiter"),
         has_header: matches.get_flag("header"),
         is_lenient: matches.get_flag("lenient"),
-    }
+        nulls: Vec::from_slice(alloc, matches.get_strs("null").unwrap_or(&[]))?,
+    })
 }
 
 /// The command line.
@@ -262,7 +295,7 @@ fn search_command<'a>(
             "Search a file that was only appended to since it was indexed: what is new, too",
         ))?
         .arg(flag(alloc, "whole").help(
-            "Search the whole file without its index, as the next four words do",
+            "Search the whole file without its index, as the next five words do",
         ))?;
     add_reading(alloc, command)
 }
@@ -275,8 +308,9 @@ fn add_reading<'a>(alloc: Global, command: Command<'a>) -> Result<Command<'a>, A
         .arg(flag(alloc, "header").help(
             "The first record has the names of the columns, and is no row",
         ))?
+        .arg(null_arg(alloc))?
         .arg(flag(alloc, "lenient").help(
-            "Take a field that its column does not take as a null, where the column takes nulls",
+            "Take a field that its column does not take, or that is missing, as a null, where the column takes nulls",
         ))
 }
 
@@ -319,6 +353,17 @@ fn delimiter_arg<'a>(alloc: Global) -> Arg<'a> {
         )
 }
 
+/// A word that is a null.
+fn null_arg<'a>(alloc: Global) -> Arg<'a> {
+    Arg::new(alloc, "null")
+        .long("null")
+        .value_name("WORD")
+        .action(ArgAction::Append)
+        .help(
+            "A word that is read as a null, as an empty field is, unless it is in quotes; may be given again",
+        )
+}
+
 /// How many records a zone has.
 fn rows_arg<'a>(alloc: Global) -> Arg<'a> {
     Arg::new(alloc, "rows")
@@ -346,5 +391,6 @@ fn append_arg<'a>(alloc: Global) -> Result<Arg<'a>, AllocError> {
         .conflicts_with("columns")?
         .conflicts_with("delimiter")?
         .conflicts_with("header")?
+        .conflicts_with("null")?
         .conflicts_with("lenient")
 }

@@ -4,77 +4,14 @@ ghost use Rattle.std.specs.Prelude.{◌<◌, IfOk, IsSome};
 ghost use Rattle.zone_map.specs.Guesses.{left_of};
 
 use crate::column_words::NamedColumn;
+use crate::kinds::Guess;
 use crate::names::names_for;
 use crate::setup::NO_DELIMITER;
 use csv_records::{Delimiter, Follows, cut_field, cut_record, row_start};
-use record_rows::{ColumnType, Kind};
+use record_rows::ColumnType;
 use std::alloc::{AllocError, Global};
 use std::str;
-use vortex_dtype::{Nullability, PType};
-
-/// What the words of a column are, as far as they were seen.
-#[derive(Clone, Copy)]
-struct Guess {
-    /// Whether there was one that is no null.
-    is_seen: bool,
-    /// Whether each is a number of an i64, written as such numbers are.
-    fits_signed: bool,
-    /// Whether each is one of a u64.
-    fits_unsigned: bool,
-}
-
-impl Guess {
-    /// What is known before any word.
-    const FIRST: Guess = Guess {
-        is_seen: false,
-        fits_signed: true,
-        fits_unsigned: true,
-    };
-
-    /// What is known after one more field. One without a byte and without quotes is a null.
-    fn after(self, field: SeenField<'_>) -> Guess {
-        if field.word.is_empty() && !field.is_quoted {
-            return self;
-        }
-        let (is_signed, is_unsigned) = numbers_of(field.word);
-        Guess {
-            is_seen: true,
-            fits_signed: self.fits_signed && is_signed,
-            fits_unsigned: self.fits_unsigned && is_unsigned,
-        }
-    }
-
-    /// The kind that fits all words: numbers if all are, else strings.
-    fn kind(self) -> Kind {
-        if !self.is_seen {
-            Kind::Utf8
-        } else if self.fits_signed {
-            Kind::Integer(PType::I64)
-        } else if self.fits_unsigned {
-            Kind::Integer(PType::U64)
-        } else {
-            Kind::Utf8
-        }
-    }
-}
-
-/// Whether a word is a number of an i64, and one of a u64. One with a sign `+` or with zeros in
-/// front is none, so that no two words become one value.
-fn numbers_of(word: &[u8]) -> (bool, bool) {
-    let digits = match word {
-        [b'-', rest @ ..] => rest,
-        _ => word,
-    };
-    let is_plain = match digits {
-        [b'0'] => digits.len() == word.len(),
-        [first, ..] => b'1' <= *first && *first <= b'9',
-        [] => false,
-    };
-    match str::from_utf8(word) {
-        Ok(text) if is_plain => (text.parse::<i64>().is_ok(), text.parse::<u64>().is_ok()),
-        _ => (false, false),
-    }
-}
+use vortex_dtype::Nullability;
 
 /// A field that was seen.
 #[derive(Clone, Copy)]
@@ -128,19 +65,30 @@ impl<'a> Fields<'a> {
     }
 }
 
+/// Columns that were guessed.
+#[derive(Drop)]
+pub struct Guessed {
+    /// The columns.
+    pub columns: Vec<NamedColumn>,
+    /// Whether the words of each are numbers that are text all the same.
+    pub have_numbers: Vec<bool>,
+}
+
 /// The columns of records: named by the header, if it has names, and with kinds that fit these
-/// records. All take nulls.
+/// records, where these words are nulls. All take nulls.
 pub fn guess_columns(
     alloc: Global,
     delimiter: Delimiter,
+    nulls: &[String],
     header: &[u8],
     records: &[u8],
-) -> Result<Vec<NamedColumn>, AllocError> {
-    let guesses = guesses_of(alloc, delimiter, records)?;
+) -> Result<Guessed, AllocError> {
+    let guesses = guesses_of(alloc, delimiter, nulls, records)?;
     let given = names_in(alloc, delimiter, header)?;
     let count = guesses.len().max(given.len()).max(1);
     let names = names_for(alloc, delimiter.byte != NO_DELIMITER, count, &given)?;
     let mut columns = Vec::new(alloc);
+    let mut have_numbers = Vec::new(alloc);
     for (place, name) in names.into_iter().enumerate() {
         let guess = guesses.get(place).copied().unwrap_or(Guess::FIRST);
         let column = ColumnType {
@@ -148,32 +96,50 @@ pub fn guess_columns(
             nullability: Nullability::Nullable,
         };
         columns.push(NamedColumn { name, column })?;
+        have_numbers.push(guess.has_numbers_as_text())?;
     }
-    Ok(columns)
+    Ok(Guessed {
+        columns,
+        have_numbers,
+    })
 }
 
-/// The fields of the header: none if it has no row. One that is not UTF-8 is empty.
-fn names_in(alloc: Global, delimiter: Delimiter, header: &[u8]) -> Result<Vec<String>, AllocError> {
+/// The fields of the header: none if it has no row. One that is not UTF-8 is empty. A byte order mark at the
+/// start is no part of the first one.
+pub fn names_in(
+    alloc: Global,
+    delimiter: Delimiter,
+    header: &[u8],
+) -> Result<Vec<String>, AllocError> {
     let mut names = Vec::new(alloc);
     let mut buffer = Vec::new(alloc);
-    let mut fields = Fields::of(delimiter, header);
+    let mut fields = Fields::of(delimiter, without_mark(header));
     while let Some(field) = fields.next_field(&mut buffer)? {
         names.push(String::from_str(alloc, str::from_utf8(field.word).unwrap_or(""))?)?;
     }
     Ok(names)
 }
 
+/// A text without a byte order mark at its start.
+fn without_mark(text: &[u8]) -> &[u8] {
+    match text {
+        [0xEF, 0xBB, 0xBF, rest @ ..] => rest,
+        _ => text,
+    }
+}
+
 /// A guess for each column of these records, as many as the first row has fields.
 fn guesses_of(
     alloc: Global,
     delimiter: Delimiter,
+    nulls: &[String],
     records: &[u8],
 ) -> Result<Vec<Guess>, AllocError> {
     let mut guesses = Vec::new(alloc);
     let mut rest = records;
     while !rest.is_empty() {
         let (line, after) = cut_record(delimiter, rest);
-        guess_record(alloc, delimiter, line, &mut guesses)?;
+        guess_record(alloc, delimiter, nulls, line, &mut guesses)?;
         rest = after;
     }
     Ok(guesses)
@@ -183,6 +149,7 @@ fn guesses_of(
 fn guess_record(
     alloc: Global,
     delimiter: Delimiter,
+    nulls: &[String],
     line: &[u8],
     guesses: &mut Vec<Guess>,
 ) -> Result<(), AllocError> {
@@ -192,11 +159,21 @@ fn guess_record(
     let mut fields = Fields::of(delimiter, line);
     while let Some(field) = fields.next_field(&mut buffer)? {
         if is_first {
-            guesses.push(Guess::FIRST.after(field))?;
+            guesses.push(guess_after(Guess::FIRST, nulls, &field))?;
         } else if let Some(guess) = guesses.get_mut(place) {
-            *guess = guess.after(field);
+            *guess = guess_after(*guess, nulls, &field);
         }
         place = place.saturating_add(1);
     }
     Ok(())
+}
+
+/// A guess after one more field, where these words are nulls.
+fn guess_after(guess: Guess, nulls: &[String], field: &SeenField<'_>) -> Guess {
+    let is_null = field.word.is_empty() || nulls.iter().any(|null| null.as_bytes() == field.word);
+    if is_null && !field.is_quoted {
+        guess
+    } else {
+        guess.after(field.word)
+    }
 }

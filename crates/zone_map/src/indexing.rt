@@ -1,6 +1,6 @@
 //! An index is made, or extended.
 
-use crate::column_words::columns_text;
+use crate::column_words::NamedColumn;
 use crate::commands::IndexRequest;
 use crate::files::{at_place, buffered, from_place, open_file, save, stamp_of};
 use crate::grown::{end_of, grown_end};
@@ -10,11 +10,16 @@ use crate::preparing::{Prepared, prepare};
 use crate::program_errors::{FileError, ProgramError};
 use crate::setup::{Numbers, Setup};
 use crate::watching::Watched;
+use logical_types::{StorageType, storage_type};
+use record_rows::Kind;
 use record_search::{RowDescriber, Schema, index_rows};
 use std::alloc::Global;
 use std::fs::File;
 use std::process::ExitCode;
 use zone_index::{Index, Indexed};
+
+/// How many bytes a decimal of more than 18 digits is stored in.
+const WIDE_LENGTH: usize = 16;
 
 /// An index that is to have the zones from an offset on.
 #[derive(Drop)]
@@ -64,10 +69,10 @@ fn made(
         setup,
         start,
         first: _,
+        told,
     } = prepared;
     let setup = with_sizes(setup, request);
-    if request.reading.columns.is_none() {
-        let text = columns_text(rt.alloc(), &setup.columns)?;
+    if let Some(text) = told {
         let _ = eprintln!(rt; "columns {text}");
     }
     Ok(Unfinished {
@@ -78,15 +83,31 @@ fn made(
 
 /// A setup with what a request says of zones and bounds.
 fn with_sizes(setup: Setup, request: &IndexRequest<'_>) -> Setup {
-    let Setup { numbers, columns } = setup;
+    let Setup {
+        numbers,
+        nulls,
+        columns,
+    } = setup;
+    let bound_length = request.bound_length.max(least_length(&columns));
     Setup {
         numbers: Numbers {
-            bound_length: request.bound_length,
+            bound_length,
             zone_rows: request.rows,
             ..numbers
         },
+        nulls,
         columns,
     }
+}
+
+/// How many bytes bounds have at least, so that no number is cut: those of a decimal of more than 18 digits,
+/// if a column has such decimals.
+fn least_length(columns: &[NamedColumn]) -> usize {
+    let has_wide = columns.iter().any(|named| match named.column.kind {
+        Kind::Logical(logical) => storage_type(logical) == StorageType::Bytes,
+        _ => false,
+    });
+    if has_wide { WIDE_LENGTH } else { 0 }
 }
 
 /// An index without zones, of a file whose header has so many bytes.
@@ -150,16 +171,16 @@ fn finish(
 ) -> Result<(), ProgramError> {
     let Unfinished { mut loaded, place } = unfinished;
     let schema = loaded.setup.schema(rt.alloc())?;
-    let nulls = add_zones(rt, name, file, &schema, place, &mut loaded)?;
+    let (nulls, longer) = add_zones(rt, name, file, &schema, place, &mut loaded)?;
     save(rt, name, loaded.setup.columns.len(), &loaded.index)?;
-    if schema.is_lenient {
-        let _ = eprintln!(rt; "{nulls} fields were taken as nulls");
+    if schema.reading.is_lenient() {
+        let _ = eprintln!(rt; "{nulls} words became nulls; {longer} records had fields too many");
     }
     Ok(())
 }
 
 /// Adds the zones of a file from this offset on, and what the file is then. Says how many of its
-/// fields were taken as nulls.
+/// fields were taken as nulls, and how many of its records have more fields than columns.
 fn add_zones(
     rt: &HostRuntime,
     name: &str,
@@ -167,18 +188,14 @@ fn add_zones(
     schema: &Schema,
     place: u64,
     loaded: &mut Loaded,
-) -> Result<u64, ProgramError> {
+) -> Result<(u64, u64), ProgramError> {
     let before = stamp_of(rt.alloc(), name, file)?;
     let left = before.length.saturating_sub(place);
-    let Indexed { mut zones, nulls } = zones_from(
-        rt,
-        name,
-        file,
-        schema,
-        place,
-        left,
-        &loaded.setup,
-    )?;
+    let Indexed {
+        mut zones,
+        nulls,
+        longer,
+    } = zones_from(rt, name, file, schema, place, left, &loaded.setup)?;
     let after = stamp_of(rt.alloc(), name, file)?;
     if before != after || end_of(place, &zones) != before.length {
         return Err(ProgramError::of_file(rt.alloc(), name, FileError::Changing));
@@ -186,7 +203,7 @@ fn add_zones(
     loaded.index.zones.append(&mut zones)?;
     loaded.index.file_length = before.length;
     loaded.index.changed = before.changed;
-    Ok(nulls)
+    Ok((nulls, longer))
 }
 
 /// The zones of a file from this offset on, of which so many bytes are left.

@@ -4,9 +4,10 @@ use crate::column_words::columns_text;
 use crate::commands::SearchRequest;
 use crate::files::{index_name, stamp_of};
 use crate::index_files::{IndexError, IndexFile};
+use crate::matching::{in_own_case, nearest_name};
 use crate::program_errors::{BadFilter, FileError, ProgramError};
 use crate::setup::Setup;
-use filter_sql::{ParseError, parse};
+use filter_sql::{Column, ParseError, parse};
 use record_search::{RowDescriber, RowFilter, Schema};
 use std::alloc::{AllocError, Global};
 use std::fs::File;
@@ -218,26 +219,58 @@ impl Sought {
     }
 }
 
-/// The filter that a text is over the columns of a setup.
+/// The filter that a text is over the columns of a setup. A name that no column has exactly is that of the
+/// one that has it in another case.
 fn filter_in(alloc: Global, setup: &Setup, text: &str) -> Result<Filter, ProgramError> {
     let columns = setup.filter_columns(alloc)?;
-    match parse(alloc, text, &columns) {
+    let mut own = String::from_str(alloc, text)?;
+    for _ in 0..text.len() {
+        match parse(alloc, &own, &columns) {
+            Err(ParseError::NoColumn { offset }) => {
+                match in_own_case(alloc, &own, offset, &columns)? {
+                    Some(other) => own = other,
+                    None => break,
+                }
+            }
+            Err(error) => return Err(filter_fault(alloc, setup, text, &columns, error)),
+            Ok(filter) => return Ok(filter),
+        }
+    }
+    match parse(alloc, &own, &columns) {
         Ok(filter) => Ok(filter),
-        Err(error) => Err(filter_fault(alloc, setup, text, error)),
+        Err(error) => Err(filter_fault(alloc, setup, text, &columns, error)),
     }
 }
 
 /// The error of a filter over the columns of a setup.
-fn filter_fault(alloc: Global, setup: &Setup, text: &str, error: ParseError) -> ProgramError {
-    match columns_text(alloc, &setup.columns) {
-        Ok(columns) => {
-            let bad = BadFilter {
-                text,
-                columns: &columns,
-                error,
-            };
-            ProgramError::made(format!(in alloc; "{bad}"))
-        }
-        Err(error) => ProgramError::from(error),
-    }
+fn filter_fault(
+    alloc: Global,
+    setup: &Setup,
+    text: &str,
+    columns: &[Column],
+    error: ParseError,
+) -> ProgramError {
+    ProgramError::made(bad_filter(alloc, setup, text, columns, error))
+}
+
+/// What is said of a filter that is wrong.
+fn bad_filter(
+    alloc: Global,
+    setup: &Setup,
+    text: &str,
+    columns: &[Column],
+    error: ParseError,
+) -> Result<String, AllocError> {
+    let nearest = match error {
+        ParseError::NoColumn { offset } => nearest_name(alloc, text, offset, columns)?,
+        _ => None,
+    };
+    let listed = columns_text(alloc, &setup.columns)?;
+    let bad = BadFilter {
+        text,
+        columns: &listed,
+        nearest,
+        error,
+    };
+    format!(in alloc; "{bad}")
 }

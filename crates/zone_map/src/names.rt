@@ -2,7 +2,7 @@
 
 ghost use Rattle.std.specs.Prelude.{◌≡◌, ◌≢◌, ◌<◌, ◌≤◌, ◌⊎◌, ◌++◌, ◌∷◌, ℕ, [], IfNone, IfOk, IfSome, MatchBool, All};
 ghost use Rattle.std.specs.Prelude.{AllPairs, Contains, length, slice_index_or, string_bytes};
-ghost use Rattle.zone_map.specs.Names.{IsFirstFree, IsName, KeepsNames, made_up, texts};
+ghost use Rattle.zone_map.specs.Names.{IsFirstFree, IsLine, IsName, KeepsNames, made_up, texts};
 
 use std::alloc::{AllocError, Global};
 
@@ -10,9 +10,13 @@ use std::alloc::{AllocError, Global};
 pub fn is_name(text: &str) -> bool
     ensures { MatchBool result (IsName text.now) (¬ (IsName text.now)) }
 {
-    if text.is_empty() {
-        return false;
-    }
+    !text.is_empty() && is_line(text)
+}
+
+/// Whether a text has no line feed.
+pub fn is_line(text: &str) -> bool
+    ensures { MatchBool result (IsLine text.now) (¬ (IsLine text.now)) }
+{
     for byte in text.as_bytes() {
         if *byte == b'\n' {
             return false;

@@ -1,12 +1,14 @@
 //! The beginning of a stream is read, which says how its records are read.
 
-use crate::column_words::{NamedColumn, columns_in};
+use crate::column_words::{NamedColumn, columns_in, columns_text, push_name};
 use crate::commands::Reading;
-use crate::guessing::guess_columns;
+use crate::guessing::{Guessed, guess_columns, names_in};
+use crate::names::{is_line, stands_in};
 use crate::program_errors::ProgramError;
 use crate::setup::{Numbers, Setup, delimiter_in};
 use csv_records::Delimiter;
-use std::alloc::Global;
+use record_rows::ColumnType;
+use std::alloc::{AllocError, Global};
 use std::io::BufRead;
 use zone_index::{SearchError, take_records};
 
@@ -22,6 +24,8 @@ pub struct Prepared {
     pub start: u64,
     /// The records that were read.
     pub first: Vec<u8>,
+    /// What is to be told of the columns, if some were guessed.
+    pub told: Option<String>,
 }
 
 /// Reads the header of a stream if it has one, and its first records if columns are to be guessed.
@@ -31,14 +35,20 @@ pub fn prepare<B: BufRead>(
     reader: &mut B,
 ) -> Result<Prepared, ProgramError> {
     let delimiter = delimiter_in(reading.delimiter)?;
-    let header = first_records(alloc, delimiter, u64::from(reading.has_header), reader)?;
-    let guessed_from = if reading.columns.is_none() {
-        GUESSED_FROM
-    } else {
-        0
+    let given = match reading.columns {
+        Some(text) => columns_in(alloc, text)?,
+        None => Vec::new(alloc),
     };
+    let header = first_records(alloc, delimiter, u64::from(reading.has_header), reader)?;
+    let nulls = null_words(alloc, &reading.nulls)?;
+    let guesses = guesses_others(alloc, reading, delimiter, &header, &given)?;
+    let guessed_from = if guesses { GUESSED_FROM } else { 0 };
     let first = first_records(alloc, delimiter, guessed_from, reader)?;
-    let columns = columns_of(alloc, reading, delimiter, &header, &first)?;
+    let (columns, told) = if guesses {
+        with_guessed(alloc, delimiter, &nulls, &header, &first, given)?
+    } else {
+        (given, None)
+    };
     let numbers = Numbers {
         delimiter: delimiter.byte,
         is_lenient: reading.is_lenient,
@@ -46,10 +56,27 @@ pub fn prepare<B: BufRead>(
         zone_rows: 0,
     };
     Ok(Prepared {
-        setup: Setup { numbers, columns },
+        setup: Setup {
+            numbers,
+            nulls,
+            columns,
+        },
         start: header.len() as u64,
         first,
+        told,
     })
+}
+
+/// The words that are nulls, each of one line.
+fn null_words(alloc: Global, words: &[&str]) -> Result<Vec<String>, ProgramError> {
+    let mut nulls = Vec::new(alloc);
+    for word in words {
+        if !is_line(word) {
+            return Err(ProgramError::Fixed("--null: a word of one line"));
+        }
+        nulls.push(String::from_str(alloc, word)?)?;
+    }
+    Ok(nulls)
 }
 
 /// So many records of a stream, or all that are left.
@@ -66,16 +93,67 @@ fn first_records<B: BufRead>(
     Ok(text)
 }
 
-/// The columns that are named, or those that are guessed.
-fn columns_of(
+/// Whether other columns than those that are given are to be guessed: if none are given; and if each that is
+/// given has a name of the header, which has more.
+fn guesses_others(
     alloc: Global,
     reading: &Reading<'_>,
     delimiter: Delimiter,
     header: &[u8],
-    first: &[u8],
-) -> Result<Vec<NamedColumn>, ProgramError> {
-    match reading.columns {
-        Some(text) => columns_in(alloc, text),
-        None => Ok(guess_columns(alloc, delimiter, header, first)?),
+    given: &[NamedColumn],
+) -> Result<bool, AllocError> {
+    if reading.columns.is_none() {
+        return Ok(true);
     }
+    let names = names_in(alloc, delimiter, header)?;
+    Ok(given.len() < names.len() && given.iter().all(|column| stands_in(&names, &column.name)))
+}
+
+/// The columns that are guessed, but for those that are given, and what is to be told of them.
+fn with_guessed(
+    alloc: Global,
+    delimiter: Delimiter,
+    nulls: &[String],
+    header: &[u8],
+    first: &[u8],
+    given: Vec<NamedColumn>,
+) -> Result<(Vec<NamedColumn>, Option<String>), AllocError> {
+    let Guessed {
+        mut columns,
+        have_numbers,
+    } = guess_columns(alloc, delimiter, nulls, header, first)?;
+    let mut notes = String::new(alloc);
+    for (place, guessed) in columns.iter_mut().enumerate() {
+        let has_numbers = have_numbers.get(place).copied().unwrap_or(false);
+        match column_named(&given, &guessed.name) {
+            Some(column) => guessed.column = column,
+            None => {
+                if has_numbers {
+                    add_note(&guessed.name, &mut notes)?;
+                }
+            }
+        }
+    }
+    let mut told = columns_text(alloc, &columns)?;
+    told.push_str(&notes)?;
+    Ok((columns, Some(told)))
+}
+
+/// What the column of this name takes, if there is one.
+fn column_named(columns: &[NamedColumn], name: &str) -> Option<ColumnType> {
+    for named in columns {
+        if named.name.as_str() == name {
+            return Some(named.column);
+        }
+    }
+    None
+}
+
+/// Adds what is told of a column whose words are numbers, and that is text all the same.
+fn add_note(name: &str, notes: &mut String) -> Result<(), AllocError> {
+    notes.push_str("\nthe words of ")?;
+    push_name(notes, name)?;
+    notes.push_str(" are numbers, and taken as text; --columns '")?;
+    push_name(notes, name)?;
+    notes.push_str(" f64?' takes them as numbers")
 }

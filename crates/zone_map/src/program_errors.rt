@@ -1,10 +1,11 @@
 //! Why the program stops.
 
-use crate::column_words::NamedColumn;
+use crate::column_words::{NamedColumn, is_plain_name};
 use filter_sql::ParseError;
 use std::alloc::{AllocError, AllocFailed, Global};
 use std::fmt::{self, Display, Formatter, Write};
 use std::{io, str};
+use vortex_dtype::Nullability;
 use zone_index::{Cause, EncodingError, SearchError};
 
 /// Why the program stopped: what it says on standard error.
@@ -134,6 +135,8 @@ pub struct BadFilter<'a> {
     pub text: &'a str,
     /// The columns that it is over.
     pub columns: &'a str,
+    /// The column whose name is nearest to the one that no column has.
+    pub nearest: Option<&'a str>,
     /// What is wrong.
     pub error: ParseError,
 }
@@ -147,7 +150,12 @@ impl Display for BadFilter<'_> {
         write_pointed(f, self.text, place)?;
         write!(f, "^ {}", self.error)?;
         match self.error {
-            ParseError::NoColumn { offset: _ } => write!(f, "\nthe columns are {}", self.columns),
+            ParseError::NoColumn { offset: _ } => {
+                if let Some(name) = self.nearest {
+                    write!(f, "; did you mean {name}?")?;
+                }
+                write!(f, "\nthe columns are {}", self.columns)
+            }
             _ => Ok(()),
         }
     }
@@ -197,7 +205,7 @@ impl Display for BadRecord<'_> {
             Cause::Word { column, word } => write_bad_word(f, self.columns, *column, word),
             Cause::FieldCount => write!(
                 f,
-                "the record has fewer fields than the {} columns, or more",
+                "the record has fewer fields than the {} columns, or more; --lenient takes it, where columns take nulls",
                 self.columns.len()
             ),
             Cause::LoneReturn => {
@@ -219,7 +227,44 @@ fn write_bad_word<W: Write>(
         write!(f, ", {},", named.name)?;
     }
     f.write_str(" does not take ")?;
-    write_word(f, word)
+    write_word(f, word)?;
+    match columns.get(column as usize) {
+        Some(named) => write_ways_out(f, named, word),
+        None => Ok(()),
+    }
+}
+
+/// Writes what takes a word that a column does not: a column of text, or of bytes if the word is no UTF-8,
+/// or a null in its place.
+fn write_ways_out<W: Write>(f: &mut Formatter<W>, named: &NamedColumn, word: &[u8]) -> fmt::Result {
+    let (kind, taken) = match str::from_utf8(word) {
+        Ok(_) => ("utf8", "text"),
+        Err(_) => ("bytes", "its bytes"),
+    };
+    let takes_null = named.column.nullability == Nullability::Nullable;
+    let mark = if takes_null { "?" } else { "" };
+    f.write_str("; --columns '")?;
+    write_name(f, &named.name)?;
+    write!(f, " {kind}{mark}' takes it as {taken}")?;
+    if takes_null {
+        f.write_str("; --lenient takes it as a null")?;
+    }
+    Ok(())
+}
+
+/// Writes the name of a column as `--columns` reads it.
+fn write_name<W: Write>(f: &mut Formatter<W>, name: &str) -> fmt::Result {
+    if is_plain_name(name) {
+        return f.write_str(name);
+    }
+    f.write_str("\"")?;
+    for letter in name.chars() {
+        if letter == '"' {
+            f.write_str("\"")?;
+        }
+        write!(f, "{letter}")?;
+    }
+    f.write_str("\"")
 }
 
 /// Writes a word: as text in quotes where it is UTF-8, else as hexadecimal digits.

@@ -4,8 +4,9 @@ ghost use Rattle.std.specs.Prelude.{◌≡◌, ◌<◌, ◌^◌, ◌++◌, ◌�
 ghost use Rattle.std.specs.Prelude.{string_bytes, if◌then◌else◌};
 ghost use Rattle.std.specs.Fmt.{decimal};
 ghost use Rattle.zone_map.specs.Setups.{ColumnValue, FitNumbers, HaveNames, IsSetup, SetupValue, column_line};
-ghost use Rattle.zone_map.specs.Setups.{column_lines, column_values, kind_text, numbers_text, setup_text, setup_value};
-ghost use Rattle.zone_map.specs.Names.{IsName};
+ghost use Rattle.zone_map.specs.Setups.{column_lines, column_values, kind_text, null_lines, numbers_text, setup_lines};
+ghost use Rattle.zone_map.specs.Setups.{setup_text, setup_value};
+ghost use Rattle.zone_map.specs.Names.{IsName, texts};
 ghost use Rattle.zone_map.specs.declared.setup.Numbers.{Numbers};
 ghost use Rattle.record_rows.specs.declared.schema.ColumnType.{ColumnType};
 
@@ -14,7 +15,7 @@ use crate::names::is_name;
 use crate::program_errors::ProgramError;
 use csv_records::Delimiter;
 use filter_sql::Column;
-use record_rows::ColumnType;
+use record_rows::{ColumnType, FieldReading};
 use record_search::{Schema, dtype_of};
 use std::alloc::{AllocError, Global};
 use std::fmt::Write;
@@ -32,6 +33,8 @@ const DELIMITERS: &str =
 pub struct Setup {
     /// What it says in numbers.
     pub numbers: Numbers,
+    /// The words that are nulls, in columns that take nulls.
+    pub nulls: Vec<String>,
     /// The columns.
     pub columns: Vec<NamedColumn>,
 }
@@ -50,11 +53,13 @@ pub struct Numbers {
 }
 
 impl Setup {
-    /// The same as text: a line of numbers, and a line for each column, its kind and its name.
+    /// The same as text: a line for each word that is a null, a line of numbers, and a line for each
+    /// column, its kind and its name.
     pub fn to_text(&self, alloc: Global) -> Result<String, AllocError>
         ensures { IfOk result (λ text. string_bytes text ≡ setup_text (setup_value self.now)) }
     {
         let mut text = String::new(alloc);
+        push_nulls(&mut text, &self.nulls)?;
         push_numbers(&mut text, self.numbers)?;
         for named in &self.columns {
             push_column(&mut text, named)?;
@@ -68,9 +73,31 @@ impl Setup {
         ensures { IfOk result (λ found. (s : SetupValue) → IsSetup s → IsUtf8 bytes.now → bytes.now ≡ setup_text s
             → IsSomeAnd found (λ setup. setup_value setup ≡ s)) }
     {
-        match parts_of(bytes) {
+        let Ok(text) = str::from_utf8(bytes) else {
+            return Ok(None);
+        };
+        match nulls_of_lines(alloc, text)? {
+            Some((nulls, rest)) => Setup::with_nulls(alloc, nulls, rest),
+            None => Ok(None),
+        }
+    }
+
+    /// What the lines say that follow those of words that are nulls.
+    fn with_nulls(
+        alloc: Global,
+        nulls: Vec<String>,
+        lines: &str,
+    ) -> Result<Option<Setup>, AllocError>
+        ensures { IfOk result (λ found. (s : SetupValue) → IsSetup s → texts nulls.items ≡ s.nulls
+            → lines.now ≡ setup_lines s → IsSomeAnd found (λ setup. setup_value setup ≡ s)) }
+    {
+        match parts_of(lines) {
             Some((numbers, lines)) => match columns_of_lines(alloc, lines)? {
-                Some(columns) => Ok(Some(Setup { numbers, columns })),
+                Some(columns) => Ok(Some(Setup {
+                    numbers,
+                    nulls,
+                    columns,
+                })),
                 None => Ok(None),
             },
             None => Ok(None),
@@ -88,22 +115,40 @@ impl Setup {
         }
         Ok(Schema {
             delimiter,
-            is_lenient: self.numbers.is_lenient,
+            reading: self.reading(alloc)?,
             columns,
         })
+    }
+
+    /// How fields are read.
+    fn reading(&self, alloc: Global) -> Result<FieldReading, AllocError> {
+        let mut nulls = Vec::new(alloc);
+        for null in &self.nulls {
+            nulls.push(Vec::from_slice(alloc, null.as_bytes())?)?;
+        }
+        Ok(FieldReading::new(self.numbers.is_lenient, nulls))
     }
 
     /// The columns, as filters name them.
     pub fn filter_columns(&self, alloc: Global) -> Result<Vec<Column>, AllocError> {
         let mut columns = Vec::new(alloc);
         for named in &self.columns {
-            columns.push(Column {
-                name: String::from_str(alloc, &named.name)?,
-                dtype: dtype_of(named.column),
-            })?;
+            let name = String::from_str(alloc, &named.name)?;
+            let dtype = dtype_of(alloc, named.column)?;
+            columns.push(Column { name, dtype })?;
         }
         Ok(columns)
     }
+}
+
+/// Appends a line for each word that is a null.
+fn push_nulls(text: &mut String, nulls: &[String]) -> Result<(), AllocError>
+    ensures { OnOk result (string_bytes text.new ≡ string_bytes text.old ++ null_lines (texts nulls.now)) }
+{
+    for null in nulls {
+        writeln!(text, "null {null}")?;
+    }
+    Ok(())
 }
 
 /// Appends the line of a setup's numbers.
@@ -131,14 +176,28 @@ fn push_column(text: &mut String, named: &NamedColumn) -> Result<(), AllocError>
     Ok(())
 }
 
+/// The words that are nulls by the first lines of a text, and what follows those.
+fn nulls_of_lines(alloc: Global, text: &str) -> Result<Option<(Vec<String>, &str)>, AllocError>
+    ensures { IfOk result (λ found. (s : SetupValue) → IsSetup s → text.now ≡ setup_text s
+        → IsSomeAnd found (λ parts. (texts parts.0.items ≡ s.nulls) × (parts.1.now ≡ setup_lines s))) }
+{
+    let mut nulls = Vec::new(alloc);
+    let mut rest = text;
+    while let Some(line) = rest.strip_prefix("null ") {
+        let Some((word, after)) = line.split_once('\n') else {
+            return Ok(None);
+        };
+        nulls.push(String::from_str(alloc, word)?)?;
+        rest = after;
+    }
+    Ok(Some((nulls, rest)))
+}
+
 /// The numbers of a setup's text, and the lines of its columns.
-fn parts_of(bytes: &[u8]) -> Option<(Numbers, &str)>
-    ensures { (s : SetupValue) → IsSetup s → IsUtf8 bytes.now → bytes.now ≡ setup_text s
+fn parts_of(text: &str) -> Option<(Numbers, &str)>
+    ensures { (s : SetupValue) → IsSetup s → text.now ≡ setup_lines s
         → IsSomeAnd result (λ parts. (parts.0 ≡ s.numbers) × (parts.1.now ≡ column_lines s.columns)) }
 {
-    let Ok(text) = str::from_utf8(bytes) else {
-        return None;
-    };
     let (line, columns) = text.split_once('\n')?;
     let numbers = numbers_of(line)?;
     Some((numbers, columns))

@@ -4,13 +4,15 @@ use crate::column_words::{NamedColumn, columns_text};
 use crate::loading::{Loaded, load_there};
 use crate::program_errors::ProgramError;
 use crate::streams::{flushed, output};
-use record_rows::ColumnType;
+use logical_scalars::word_of_scalar;
+use record_rows::{ColumnType, Kind};
 use record_search::read_statistics;
 use std::alloc::{AllocError, Global};
 use std::fmt::Write as WriteText;
 use std::io::Write;
 use std::process::ExitCode;
 use vortex_statistics::{Bound, ColumnStatistics};
+use vortex_value::Scalar;
 use zone_index::{SearchError, Zone};
 
 /// Writes what an index is of, and each zone: its place, its bytes, records and rows, and the
@@ -93,28 +95,56 @@ fn push_columns(
 ) -> Result<(), AllocError> {
     if let Some(statistics) = read_statistics(alloc, types, statistics)? {
         for (named, known) in columns.iter().zip(statistics.iter()) {
-            push_column(text, &named.name, known)?;
+            push_column(alloc, named, known, text)?;
         }
     }
     Ok(())
 }
 
 /// Appends the line of a column: its nulls and its bounds.
-fn push_column(text: &mut String, name: &str, known: &ColumnStatistics) -> Result<(), AllocError> {
-    write!(text, "  {name}:")?;
+fn push_column(
+    alloc: Global,
+    named: &NamedColumn,
+    known: &ColumnStatistics,
+    text: &mut String,
+) -> Result<(), AllocError> {
+    write!(text, "  {}:", named.name)?;
     if let Some(nulls) = known.null_count {
         write!(text, " {nulls} null,")?;
     }
-    push_bound(text, "from", &known.lower)?;
-    push_bound(text, "to", &known.upper)?;
+    let kind = named.column.kind;
+    push_bound(alloc, kind, "from", &known.lower, text)?;
+    push_bound(alloc, kind, "to", &known.upper, text)?;
     text.push('\n')
 }
 
 /// Appends a bound.
-fn push_bound(text: &mut String, word: &str, bound: &Option<Bound>) -> Result<(), AllocError> {
+fn push_bound(
+    alloc: Global,
+    kind: Kind,
+    word: &str,
+    bound: &Option<Bound>,
+    text: &mut String,
+) -> Result<(), AllocError> {
+    write!(text, " {word} ")?;
     match bound {
-        Some(bound) => write!(text, " {word} {}", bound.value)?,
-        None => write!(text, " {word} ?")?,
+        Some(bound) => push_value(alloc, kind, &bound.value, text),
+        None => text.push('?'),
     }
+}
+
+/// Appends a value, one of a logical type as a word that is read as it.
+fn push_value(
+    alloc: Global,
+    kind: Kind,
+    value: &Scalar,
+    text: &mut String,
+) -> Result<(), AllocError> {
+    if let Kind::Logical(logical) = kind {
+        if let Some(word) = word_of_scalar(alloc, logical, value)? {
+            return text.push_str(&word);
+        }
+    }
+    write!(text, "{value}")?;
     Ok(())
 }

@@ -1,7 +1,7 @@
 //! Files without an index and standard input are searched whole.
 
 use crate::answering::{count_stream, find_stream, first_row};
-use crate::column_words::{NamedColumn, columns_text};
+use crate::column_words::NamedColumn;
 use crate::commands::{SearchRequest, Wanted};
 use crate::loading::Sought;
 use crate::locating::located;
@@ -25,9 +25,10 @@ pub fn search_stream<B: BufRead>(
         setup,
         start,
         first,
+        told,
     } = prepare(rt.alloc(), &request.reading, reader)?;
     let mut rest = first.as_slice().chain(reader);
-    let sought = sought_in(rt, request, setup)?;
+    let sought = sought_in(rt, request, setup, &told)?;
     match answer_stream(rt, request.wanted, &sought, start, &mut rest) {
         Ok(found) => Ok(found),
         Err(fault) => Err(located(rt, file, &sought.setup.columns, &fault)),
@@ -89,10 +90,11 @@ fn sought_in(
     rt: &HostRuntime,
     request: &SearchRequest<'_>,
     setup: Setup,
+    told: &Option<String>,
 ) -> Result<Sought, ProgramError> {
     match Sought::from_text(rt.alloc(), setup, request.filter) {
         Ok(sought) => {
-            tell_columns(rt, request, &sought.setup);
+            tell_columns(rt, request, told);
             Ok(sought)
         }
         Err(fault) => {
@@ -120,9 +122,9 @@ fn sought_in_lines(alloc: Global, filter: &str) -> Result<Sought, ProgramError> 
 }
 
 /// Tells on standard error how records are read, if that is wanted and was guessed.
-fn tell_columns(rt: &HostRuntime, request: &SearchRequest<'_>, setup: &Setup) {
-    if request.tells && request.reading.columns.is_none() {
-        if let Ok(text) = columns_text(rt.alloc(), &setup.columns) {
+fn tell_columns(rt: &HostRuntime, request: &SearchRequest<'_>, told: &Option<String>) {
+    if let Some(text) = told {
+        if request.tells {
             let _ = eprintln!(rt; "columns {text}");
         }
     }
@@ -144,7 +146,11 @@ fn lines_setup(alloc: Global) -> Result<Setup, ProgramError> {
         zone_rows: 0,
     };
     let columns = vec![in alloc; line]?;
-    Ok(Setup { numbers, columns })
+    Ok(Setup {
+        numbers,
+        nulls: Vec::new(alloc),
+        columns,
+    })
 }
 
 /// Standard output, through a buffer.

@@ -17,4 +17,4 @@ returns-in_err-append_type c =
 
 pub returns : goal.returns
 returns c =
-    key_written (cell_of c.args.literal.now) (type_of c.dtype.result.now) c.append_value.result _ _ _ (ap type_of (sym c.dtype.ensures)) c.in_ok-append_type.ensures c.append_value.ensures.appended c.append_value.ensures.held c.append_value.ensures.untyped c.append_value.ensures.refused c.append_value.ensures.unchanged
+    key_written (cell_of c.args.literal.now) (type_of c.dtype.result.now) c.append_value.result _ _ _ (ap type_of (sym c.dtype.ensures)) c.in_ok-append_type.ensures c.append_value.ensures.appended c.append_value.ensures.held c.append_value.ensures.untyped c.append_value.ensures.refused (c.is_logically_valid.ensures.0 c.if-not-is_logically_valid.false) c.append_value.ensures.unchanged

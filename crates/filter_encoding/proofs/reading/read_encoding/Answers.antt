@@ -2,16 +2,14 @@
 use Rattle.std.proofs.Common.{map}
 use Rattle.vortex_dtype.specs.TypeOf.{type_of}
 use Rattle.vortex_filter.specs.Formula.{formula}
-use Rattle.filter_encoding.specs.Encoding.{HasEncoding, encoding, prepared}
-use Rattle.filter_encoding.proofs.EncodingLaws.{columns_stuck, filter_stuck, encoding_read, version_stuck}
-use Rattle.filter_encoding.proofs.ReadSteps.{passed_on}
+use Rattle.filter_encoding.proofs.EncodingLaws.{columns_stuck, encoding_read, filter_stuck, refused_on, version_stuck}
 use Rattle.filter_encoding.proofs.reading.read_encoding.Goals as goal
 
 pub returns-in_err-read_version-clause-read : goal.returns-in_err-read_version-clause-read
-returns-in_err-read_version-clause-read c = passed_on encoding (HasEncoding c.args.depth) prepared _ _ _ _ c.from_residual.ensures (λ bad. version_stuck c.args.depth _ _ c.in_err-read_version.ensures.0 c.in_err-read_version.ensures.1)
+returns-in_err-read_version-clause-read c = refused_on c.args.depth _ _ _ _ c.from_residual.ensures (λ bad. version_stuck c.args.depth _ _ c.in_err-read_version.ensures.0 c.in_err-read_version.ensures.1)
 
 pub returns-in_err-columns-clause-read : goal.returns-in_err-columns-clause-read
-returns-in_err-columns-clause-read c = passed_on encoding (HasEncoding c.args.depth) prepared _ _ _ _ c.from_residual-in_err-columns.ensures (λ bad. columns_stuck c.args.depth _ _ _ c.in_ok-read_version.ensures (c.in_err-columns.ensures bad))
+returns-in_err-columns-clause-read c = refused_on c.args.depth _ _ _ _ c.from_residual-in_err-columns.ensures (λ bad. columns_stuck c.args.depth _ _ _ c.in_ok-read_version.ensures (c.in_err-columns.ensures bad))
 
 pub returns-in-Ok-clause-read : goal.returns-in-Ok-clause-read
 returns-in-Ok-clause-read c = encoding_read c.args.depth (map type_of c.in_ok-columns.columns.items) (formula c.in-Ok.filter) _ _ _ _ c.in_ok-read_version.ensures c.in_ok-columns.ensures c.in-Ok.ensures.read

@@ -1,12 +1,10 @@
--- The byte, if there is one.
-use Rattle.std.proofs.Common.{◌∷◌, [], ap}
+-- An extension, or a type with a byte.
 use Rattle.vortex_dtype.specs.TypeOf.{type_of}
-use Rattle.filter_encoding.specs.Encoding.{IsPlain}
-use Rattle.filter_encoding.proofs.WriteSteps.{begins_itself, written_as}
+use Rattle.filter_encoding.proofs.ExtensionLaws.{byte_written, extension_written}
 use Rattle.filter_encoding.proofs.types.append_type.Goals as goal
 
 pub returns-in-Some : goal.returns-in-Some
-returns-in-Some c = written_as (Unit {0}) (IsPlain (type_of c.args.dtype.now)) (Unit {0}) (IsPlain (type_of c.args.dtype.now)) _ _ _ _ _ (λ u. c.in-Some.ensures.0) (λ h. tt) (ap (λ b. b ∷ []) c.in-Some.ensures.1) c.append_byte.ensures
+returns-in-Some c = extension_written _ _ _ (type_of c.args.dtype.now) c.append_extension.result _ _ c.in-Some.ensures c.append_extension.ensures
 
 pub returns-in-None : goal.returns-in-None
-returns-in-None c = (c.in-None.ensures, begins_itself _)
+returns-in-None c = byte_written (type_of c.args.dtype.now) c.append_byte_type.result _ _ c.in-None.ensures c.append_byte_type.ensures

@@ -1,13 +1,12 @@
--- The byte of a type, or another one.
-use Rattle.std.proofs.Common.{sym}
-use Rattle.filter_encoding.proofs.TypeLaws.{no_type, type_missing, type_read}
+-- An extension, or a type with a byte.
+use Rattle.std.proofs.Common.{List, ℕ, subst, sym}
+use Rattle.filter_encoding.specs.Steps.{ReadsType}
+use Rattle.filter_encoding.specs.Strings.{left}
+use Rattle.filter_encoding.proofs.ExtensionLaws.{by_its_byte}
 use Rattle.filter_encoding.proofs.types.read_type.Goals as goal
 
-pub returns-in_default : goal.returns-in_default
-returns-in_default c = λ bad. type_missing _ c.in_default.ensures
+pub returns-then-takes : goal.returns-then-takes
+returns-then-takes c = subst (λ (old : List ℕ). ReadsType c.read_extension.result old (left c.read_extension.new.reader)) (sym (c.takes.ensures.taken c.if-takes.true)) c.read_extension.ensures
 
-pub returns-in_default-type_from : goal.returns-in_default-type_from
-returns-in_default-type_from c = λ bad. no_type c.in-Some.byte _ c.in-Some.ensures.0 c.in-Some.ensures.1 (sym c.in_default-type_from.ensures.tree)
-
-pub returns : goal.returns
-returns c = type_read c.in-Some.byte _ _ _ c.in-Some.ensures c.in-Some-type_from.ensures.byte c.advance.ensures
+pub returns-else-takes : goal.returns-else-takes
+returns-else-takes c = by_its_byte c.read_byte_type.result _ _ _ (c.takes.ensures.unchanged c.if-takes.false) (c.takes.ensures.other c.if-takes.false) c.read_byte_type.ensures

@@ -15,7 +15,7 @@ pub returns-in_err-append_types : goal.returns-in_err-append_types
 returns-in_err-append_types c =
     let w = c.in_err-append_types.ensures in
     passed_on _ (AreListed IsPlain (map type_of c.args.columns.now)) (CanBeWritten c.args.depth (parts_of c.args.columns.now c.args.filter.now)) _ _ _ _ _ c.from_residual-in_err-append_types.ensures (λ h. h.types) w.0
-    (begins_later (1 ∷ []) _ _ _ c.in_ok-append_byte.ensures.1 w.1)
+    (begins_later (c.version_of.result ∷ []) _ _ _ c.in_ok-append_byte.ensures.1 w.1)
 
 pub returns : goal.returns
-returns c = encoding_written c.args.depth (parts_of c.args.columns.now c.args.filter.now) c.append_node.result _ _ _ _ c.in_ok-append_byte.ensures.1 c.in_ok-append_types.ensures c.append_node.ensures
+returns c = encoding_written c.args.depth c.version_of.result (parts_of c.args.columns.now c.args.filter.now) c.append_node.result _ _ _ _ c.version_of.ensures c.in_ok-append_byte.ensures.1 c.in_ok-append_types.ensures c.append_node.ensures

@@ -4,8 +4,9 @@ use Rattle.std.proofs.lemmas.List.{get_or_default}
 use Rattle.std.proofs.lemmas.Result.{err_from_is_err_and}
 use Rattle.record_rows.specs.Observed.{Step}
 use Rattle.record_rows.specs.Walks.{IsNext}
-use Rattle.record_rows.proofs.ObservedFields.{begun_taken, ended, more, not_observed}
+use Rattle.record_rows.proofs.ObservedFields.{begun_taken, ended, full_among, more}
 use Rattle.record_rows.proofs.Reading.{one_at_most}
+use Rattle.record_rows.proofs.Walking.{word_refused}
 use Rattle.record_rows.proofs.observing.observe_fields.Goals as goal
 
 pub returns-in_err-field-clause-refused : goal.returns-in_err-field-clause-refused
@@ -13,24 +14,36 @@ returns-in_err-field-clause-refused c =
     let p = err_from_is_err_and c.from_residual.result c.from_residual.ensures.1 in
     let s = c.args.schema.now in
     let b = c.loop-field.invariant.0 in
-    rw (p.1, p.2) (c.in_err-field.ensures.refused s.delimiter.byte s.is_lenient s.columns.items c.args.text.now (map (λ (p : Step). p.field) b.steps) b.walked (begun_taken _ _ _ _ _ _ _ _ b))
+    rw (p.1, p.2) (c.in_err-field.ensures.refused s.delimiter.byte s.reading s.columns.items c.args.text.now (map (λ (p : Step). p.field) b.steps) b.walked (begun_taken _ _ _ _ _ _ _ _ b))
 
 pub offset_bounds-statistics-field : goal.offset_bounds-statistics-field
 offset_bounds-statistics-field c =
     let s = c.args.schema.now in
     let b = c.loop-field.invariant.0 in
-    let is : IsNext s.delimiter.byte s.columns.items c.args.text.now c.next_field.new.self (map (λ (p : Step). p.field) b.steps) c.in-Some.field =
-    rw c.in-Some.is at (c.in_ok-field.ensures.next s.delimiter.byte s.columns.items c.args.text.now (map (λ (p : Step). p.field) b.steps) b.walked) in
-    let within : c.in-Some.field.place < length c.loop-field.statistics = omega (arith, c.requires, b.stepped.long, is.within) in
+    let is : IsNext s.delimiter.byte s.reading s.columns.items c.args.text.now c.next_field.new.self (map (λ (p : Step). p.field) b.steps) c.in-Some.field =
+    rw c.in-Some.is at (c.in_ok-field.ensures.next s.delimiter.byte s.reading s.columns.items c.args.text.now (map (λ (p : Step). p.field) b.steps) b.walked) in
+    let within : c.in-Some.field.place < length c.loop-field.statistics = omega (arith, c.requires.many, b.stepped.long, is.within) in
     search rules
 
 pub bounds-statistics-field : goal.bounds-statistics-field
 bounds-statistics-field c =
     let s = c.args.schema.now in
     let b = c.loop-field.invariant.0 in
-    let is : IsNext s.delimiter.byte s.columns.items c.args.text.now c.next_field.new.self (map (λ (p : Step). p.field) b.steps) c.in-Some.field =
-    rw c.in-Some.is at (c.in_ok-field.ensures.next s.delimiter.byte s.columns.items c.args.text.now (map (λ (p : Step). p.field) b.steps) b.walked) in
-    omega (arith, c.requires, b.stepped.long, is.within)
+    let is : IsNext s.delimiter.byte s.reading s.columns.items c.args.text.now c.next_field.new.self (map (λ (p : Step). p.field) b.steps) c.in-Some.field =
+    rw c.in-Some.is at (c.in_ok-field.ensures.next s.delimiter.byte s.reading s.columns.items c.args.text.now (map (λ (p : Step). p.field) b.steps) b.walked) in
+    omega (arith, c.requires.many, b.stepped.long, is.within)
+
+pub observe_field-requires : goal.observe_field-requires
+observe_field-requires c = λ full.
+    let s = c.args.schema.now in
+    let b = c.loop-field.invariant.0 in
+    let fields = map (λ (p : Step). p.field) b.steps in
+    let is : IsNext s.delimiter.byte s.reading s.columns.items c.args.text.now c.next_field.new.self fields c.in-Some.field =
+    rw c.in-Some.is at (c.in_ok-field.ensures.next s.delimiter.byte s.reading s.columns.items c.args.text.now fields b.walked) in
+    let i = c.in-Some.field.place in
+    let within : i < length c.loop-field.statistics = omega (arith, c.requires.many, b.stepped.long, is.within) in
+    c.requires.few (full_among s.delimiter.byte s.reading s.columns.items c.args.text.now c.loop-field.walk c.next_field.new.self c.in-Some.field c.args.statistics.now c.loop-field.statistics (get_or c.loop-field.statistics i c.index-statistics-field.result) c.loop-field.refused
+    c.requires.many b is (get_or_default c.loop-field.statistics i c.index-statistics-field.result _ within) full)
 
 pub returns-in_err-flag-clause-refused : goal.returns-in_err-flag-clause-refused
 returns-in_err-flag-clause-refused c =
@@ -38,25 +51,22 @@ returns-in_err-flag-clause-refused c =
     let s = c.args.schema.now in
     let b = c.loop-field.invariant.0 in
     let fields = map (λ (p : Step). p.field) b.steps in
-    let is : IsNext s.delimiter.byte s.columns.items c.args.text.now c.next_field.new.self fields c.in-Some.field =
-    rw c.in-Some.is at (c.in_ok-field.ensures.next s.delimiter.byte s.columns.items c.args.text.now fields b.walked) in
-    let i = c.in-Some.field.place in
-    let within : i < length c.loop-field.statistics = omega (arith, c.requires, b.stepped.long, is.within) in
-    rw (p.1, p.2) (not_observed s.delimiter.byte s.is_lenient s.columns.items c.args.text.now c.loop-field.walk c.next_field.new.self c.in-Some.field c.args.statistics.now c.loop-field.statistics (get_or c.loop-field.statistics i c.index-statistics-field.result) c.loop-field.refused c.in_err-flag.field-0.0
-    c.requires b is (get_or_default c.loop-field.statistics i c.index-statistics-field.result _ within) c.in_err-flag.ensures.refused)
+    let is : IsNext s.delimiter.byte s.reading s.columns.items c.args.text.now c.next_field.new.self fields c.in-Some.field =
+    rw c.in-Some.is at (c.in_ok-field.ensures.next s.delimiter.byte s.reading s.columns.items c.args.text.now fields b.walked) in
+    rw (p.1, p.2) (word_refused s.delimiter.byte s.reading s.columns.items c.args.text.now c.next_field.new.self fields c.in-Some.field c.in_err-flag.field-0.0 is (begun_taken _ _ _ _ _ _ _ _ b) c.in_err-flag.ensures.refused)
 
 pub loop-field-preserved : goal.loop-field-preserved
 loop-field-preserved c =
     let s = c.args.schema.now in
     let b = c.loop-field.invariant.0 in
     let fields = map (λ (p : Step). p.field) b.steps in
-    let is : IsNext s.delimiter.byte s.columns.items c.args.text.now c.next_field.new.self fields c.in-Some.field =
-    rw c.in-Some.is at (c.in_ok-field.ensures.next s.delimiter.byte s.columns.items c.args.text.now fields b.walked) in
+    let is : IsNext s.delimiter.byte s.reading s.columns.items c.args.text.now c.next_field.new.self fields c.in-Some.field =
+    rw c.in-Some.is at (c.in_ok-field.ensures.next s.delimiter.byte s.reading s.columns.items c.args.text.now fields b.walked) in
     let moves = rw c.in-Some.is at c.in_ok-field.ensures.moves in
     let i = c.in-Some.field.place in
-    let within : i < length c.loop-field.statistics = omega (arith, c.requires, b.stepped.long, is.within) in (
-      more s.delimiter.byte s.is_lenient s.columns.items c.args.text.now c.loop-field.walk c.next_field.new.self c.in-Some.field c.args.statistics.now c.loop-field.statistics (set c.loop-field.statistics i c.observe_field.new.statistics) (get_or c.loop-field.statistics i c.index-statistics-field.result) c.observe_field.new.statistics c.in_ok-flag.flag c.loop-field.refused c.one_more-refused.result
-          c.requires b is (get_or_default c.loop-field.statistics i c.index-statistics-field.result _ within) refl c.in_ok-flag.ensures.valid c.in_ok-flag.ensures.observed c.one_more-refused.ensures,
+    let within : i < length c.loop-field.statistics = omega (arith, c.requires.many, b.stepped.long, is.within) in (
+      more s.delimiter.byte s.reading s.columns.items c.args.text.now c.loop-field.walk c.next_field.new.self c.in-Some.field c.args.statistics.now c.loop-field.statistics (set c.loop-field.statistics i c.observe_field.new.statistics) (get_or c.loop-field.statistics i c.index-statistics-field.result) c.observe_field.new.statistics c.in_ok-flag.flag c.loop-field.refused c.one_more-refused.result
+          c.requires.many b is (get_or_default c.loop-field.statistics i c.index-statistics-field.result _ within) refl c.in_ok-flag.ensures.valid c.in_ok-flag.ensures.observed c.one_more-refused.ensures,
       omega (arith, one_at_most c.in_ok-flag.flag, c.one_more-refused.ensures, moves.0, c.loop-field.invariant.1),
     )
 
@@ -64,5 +74,5 @@ pub returns-clause-fields : goal.returns-clause-fields
 returns-clause-fields c =
     let s = c.args.schema.now in
     let b = c.loop-field.invariant.0 in
-    let none = rw c.in_default.is at (c.in_ok-field.ensures.next s.delimiter.byte s.columns.items c.args.text.now (map (λ (p : Step). p.field) b.steps) b.walked) in
-    ended s.delimiter.byte s.is_lenient s.columns.items c.args.text.now c.loop-field.walk c.next_field.new.self c.args.statistics.now c.loop-field.statistics c.loop-field.refused c.requires b none
+    let none = rw c.in_default.is at (c.in_ok-field.ensures.next s.delimiter.byte s.reading s.columns.items c.args.text.now (map (λ (p : Step). p.field) b.steps) b.walked) in
+    ended s.delimiter.byte s.reading s.columns.items c.args.text.now c.loop-field.walk c.next_field.new.self c.args.statistics.now c.loop-field.statistics c.loop-field.refused c.requires.many b none

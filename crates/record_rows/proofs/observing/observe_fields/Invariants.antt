@@ -5,7 +5,7 @@ use Rattle.record_rows.proofs.observing.observe_fields.Given as goal
 
 abbrev pub invariant-loop-field : goal.invariant-loop-field
 invariant-loop-field l =
-    Begun l.schema.delimiter.byte l.schema.is_lenient l.schema.columns.items l.text l.walk l.initial.statistics l.statistics l.refused
+    Begun l.schema.delimiter.byte l.schema.reading l.schema.columns.items l.text l.walk l.initial.statistics l.statistics l.refused
     × (l.refused ≤ l.walk.place)
 
 abbrev pub decreases-loop-field : goal.decreases-loop-field

@@ -1,17 +1,16 @@
 -- The row of a record is observed, and why there is none.
 use Rattle.std.proofs.lemmas.Result.{err_from_is_err_and}
 use Rattle.record_rows.proofs.Reading.{not_empty, refused_row}
-use Rattle.record_rows.proofs.ObservedFields.{observed_line, told_of}
+use Rattle.record_rows.proofs.ObservedFields.{observed_line}
 use Rattle.record_rows.proofs.observing.observe_record.Goals as goal
 
-pub returns-in_err-refused-clause-refused : goal.returns-in_err-refused-clause-refused
-returns-in_err-refused-clause-refused c =
+pub returns-in_err-notes-clause-refused : goal.returns-in_err-notes-clause-refused
+returns-in_err-notes-clause-refused c =
     let p = err_from_is_err_and c.from_residual.result c.from_residual.ensures.1 in
-    rw (p.1, p.2) (told_of _ _ _ c.in_err-refused.field-0.0
-    (λ error why. refused_row c.args.schema.now.delimiter.byte c.args.schema.now.is_lenient c.args.schema.now.columns.items c.args.line.now c.row_start-start.result.now error
-    (c.row_start-start.ensures.row (not_empty c.row_start-start.result.now c.is_empty.result c.is_empty.ensures c.if-is_empty.false) c.args.schema.now.delimiter.byte) why) c.in_err-refused.ensures.refused)
+    rw (p.1, p.2) (refused_row c.args.schema.now.delimiter.byte c.args.schema.now.reading c.args.schema.now.columns.items c.args.line.now c.row_start-start.result.now c.in_err-notes.field-0.0
+    (c.row_start-start.ensures.row (not_empty c.row_start-start.result.now c.is_empty.result c.is_empty.ensures c.if-is_empty.false) c.args.schema.now.delimiter.byte) c.in_err-notes.ensures.refused)
 
 pub returns-clause-observed : goal.returns-clause-observed
 returns-clause-observed c =
-    observed_line c.args.schema.now.delimiter.byte c.args.schema.now.is_lenient c.args.schema.now.columns.items c.args.line.now c.row_start-start.result.now c.args.statistics.now c.observe_fields.new.statistics c.in_ok-refused.refused
-    (c.row_start-start.ensures.row (not_empty c.row_start-start.result.now c.is_empty.result c.is_empty.ensures c.if-is_empty.false) c.args.schema.now.delimiter.byte) c.in_ok-refused.ensures.fields
+    observed_line c.args.schema.now.delimiter.byte c.args.schema.now.reading c.args.schema.now.columns.items c.args.line.now c.row_start-start.result.now c.args.statistics.now c.observe_fields.new.statistics c.in_ok-notes.notes
+    (c.row_start-start.ensures.row (not_empty c.row_start-start.result.now c.is_empty.result c.is_empty.ensures c.if-is_empty.false) c.args.schema.now.delimiter.byte) c.in_ok-notes.ensures.fields

@@ -24,6 +24,7 @@ loop-row-init c =
       strip_bom c.args.text.now,
       fr.source,
       rw fr.state refl,
+      rw e at fr.flexible,
     )
 
 pub loop-row-preserved : goal.loop-row-preserved
@@ -33,7 +34,7 @@ loop-row-preserved c =
     let good : is_ok c.push.result ≡ true = search rules in
     let items = rw good at c.push.ensures.items in
     let more = row_more c.rows_are_read.ensures (λ (s : Bor (List ℕ)). Some s.now) c.loop-row.row-iterator.rdr c.next.new.self.rdr c.args.delimiter.byte (fields_of c.in_ok-row.field-0) inv.4 (map fields_of c.loop-row.rows.items) _ inv.3 inv.5 s.0 inv.6 in
-    (s.0.3 ∙ inv.0, inl s.1, s.2, s.0.2 ∙ inv.3, more.0, more.1, rw (items, map-append fields_of c.loop-row.rows.items (c.in_ok-row.field-0 ∷ [])) more.2)
+    (s.0.3 ∙ inv.0, inl s.1, s.2, s.0.2 ∙ inv.3, more.0, more.1, rw (items, map-append fields_of c.loop-row.rows.items (c.in_ok-row.field-0 ∷ [])) more.2, flexible ∙ inv.7)
 
 pub returns : goal.returns
 returns c =

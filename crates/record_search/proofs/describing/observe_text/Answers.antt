@@ -4,12 +4,12 @@ use Rattle.std.proofs.lemmas.Result.{err_from_is_err_and}
 use Rattle.zone_index.proofs.Refusing.{reached_more, reached_none, refused_in_text}
 use Rattle.zone_index.proofs.Sifting.{first_in_records, sifted_all, sifted_more, sifted_none}
 use Rattle.record_search.specs.Refused.{RefusesRecord}
-use Rattle.record_search.specs.Searched.{is_refused, nulls_under, row_under}
+use Rattle.record_search.specs.Searched.{is_refused, longer_under, nulls_under, row_under}
 use Rattle.record_search.proofs.ObserveLaws.{at_most_one, no_bytes, not_full, nulls_all, nulls_more, nulls_none, seen_all, seen_more, seen_none}
 use Rattle.record_search.proofs.describing.observe_text.Goals as goal
 
 pub loop-rest-init : goal.loop-rest-init
-loop-rest-init c = (search rules, seen_none _ _ _ _ c.requires.fresh, search rules, search rules, search rules, reached_none _ _, nulls_none _ _ _, sifted_none _ _ _)
+loop-rest-init c = (search rules, seen_none _ _ _ _ c.requires.fresh, search rules, search rules, search rules, reached_none _ _, nulls_none _ _ _, sifted_none _ _ _, nulls_none _ _ _)
 
 pub observe_line-requires-clause-few : goal.observe_line-requires-clause-few
 observe_line-requires-clause-few c =
@@ -30,8 +30,9 @@ loop-rest-preserved c =
       omega (arith, c.loop-rest.invariant.3, one),
       c.in_ok-has_row.ensures.length ∙ c.loop-rest.invariant.4,
       reached_more s.delimiter.byte c.args.text.now c.loop-rest.rest.now c.cut_record.result.0.now c.cut_record.result.1.now c.loop-rest.invariant.5 cut c.cut_record.ensures.parts,
-      nulls_more (nulls_under s) s.delimiter.byte c.args.text.now c.loop-rest.rest.now c.cut_record.result.0.now c.cut_record.result.1.now c.loop-rest.nulls c.in_ok-has_row.more c.saturating_add-nulls.result cut c.loop-rest.invariant.6 c.in_ok-has_row.ensures.nulls c.saturating_add-nulls.ensures,
+      nulls_more (nulls_under s) s.delimiter.byte c.args.text.now c.loop-rest.rest.now c.cut_record.result.0.now c.cut_record.result.1.now c.loop-rest.nulls c.in_ok-has_row.more_nulls c.saturating_add-nulls.result cut c.loop-rest.invariant.6 c.in_ok-has_row.ensures.nulls c.saturating_add-nulls.ensures,
       sifted_more (is_refused s) s.delimiter.byte s.delimiter.byte c.args.text.now c.loop-rest.rest.now c.cut_record.result.0.now c.cut_record.result.1.now c.loop-rest.invariant.7 refl cut c.cut_record.ensures.parts c.in_ok-has_row.ensures.passed,
+      nulls_more (longer_under s) s.delimiter.byte c.args.text.now c.loop-rest.rest.now c.cut_record.result.0.now c.cut_record.result.1.now c.loop-rest.longer c.in_ok-has_row.more_longer c.saturating_add-longer.result cut c.loop-rest.invariant.8 c.in_ok-has_row.ensures.longer c.saturating_add-longer.ensures,
     )
 
 pub returns-in_err-has_row-clause-refused : goal.returns-in_err-has_row-clause-refused
@@ -49,6 +50,11 @@ pub returns-clause-nulls : goal.returns-clause-nulls
 returns-clause-nulls c =
     let s = c.args.schema.now in
     nulls_all (nulls_under s) s.delimiter.byte c.args.text.now c.loop-rest.rest.now c.loop-rest.nulls (no_bytes c.loop-rest.rest.now (search rules)) c.loop-rest.invariant.6
+
+pub returns-clause-longer : goal.returns-clause-longer
+returns-clause-longer c =
+    let s = c.args.schema.now in
+    nulls_all (longer_under s) s.delimiter.byte c.args.text.now c.loop-rest.rest.now c.loop-rest.longer (no_bytes c.loop-rest.rest.now (search rules)) c.loop-rest.invariant.8
 
 pub returns-clause-complete : goal.returns-clause-complete
 returns-clause-complete c =

@@ -3,7 +3,7 @@ use Rattle.std.proofs.Common.{◌≡◌, ◌≤◌, ◌+◌, length}
 use Rattle.csv_records.specs.Records.{records_of}
 use Rattle.zone_index.proofs.Refusing.{IsReached}
 use Rattle.zone_index.proofs.Sifting.{Sifted}
-use Rattle.record_search.specs.Searched.{is_refused, nulls_under, row_under}
+use Rattle.record_search.specs.Searched.{is_refused, longer_under, nulls_under, row_under}
 use Rattle.record_search.proofs.ObserveLaws.{NullsSeen, Seen}
 use Rattle.record_search.proofs.describing.observe_text.Given as goal
 
@@ -17,6 +17,7 @@ invariant-loop-rest l =
     × IsReached l.schema.delimiter.byte l.text l.rest
     × NullsSeen (nulls_under l.schema) l.schema.delimiter.byte l.text l.rest l.nulls
     × Sifted (is_refused l.schema) l.schema.delimiter.byte l.text l.rest
+    × NullsSeen (longer_under l.schema) l.schema.delimiter.byte l.text l.rest l.longer
 
 abbrev pub decreases-loop-rest : goal.decreases-loop-rest
 decreases-loop-rest l = length l.rest

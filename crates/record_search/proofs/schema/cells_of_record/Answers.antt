@@ -6,7 +6,7 @@ use Rattle.record_search.proofs.schema.cells_of_record.Goals as goal
 pub returns-in-Ok-Some-clause-row : goal.returns-in-Ok-Some-clause-row
 returns-in-Ok-Some-clause-row c =
     let s = c.args.schema.now in
-    row_agrees c.args.wanted.now s.delimiter.byte s.is_lenient s.columns.items c.args.line.now c.read_cells.new.row.items c.in-Ok-Some.field-0-0 (rw c.in-Ok-Some.field-0-is at c.in-Ok-Some.ensures.row)
+    row_agrees c.shapes_say_words.ensures c.args.wanted.now s.delimiter.byte s.reading s.columns.items c.args.line.now c.read_cells.new.row.items c.in-Ok-Some.field-0-0 (rw c.in-Ok-Some.field-0-is at c.in-Ok-Some.ensures.row)
 
 pub returns-in-Err-clause-refused : goal.returns-in-Err-clause-refused
 returns-in-Err-clause-refused c = rw c.record_fault.ensures (row_refused c.args.schema.now c.args.place c.args.line.now c.in-Err.fault c.in-Err.ensures.refused)
@@ -14,10 +14,10 @@ returns-in-Err-clause-refused c = rw c.record_fault.ensures (row_refused c.args.
 pub returns-in-Ok-Some-clause-passed : goal.returns-in-Ok-Some-clause-passed
 returns-in-Ok-Some-clause-passed c =
     let s = c.args.schema.now in
-    passed_agreeing s c.args.line.now c.args.wanted.now _ (row_agrees c.args.wanted.now s.delimiter.byte s.is_lenient s.columns.items c.args.line.now c.read_cells.new.row.items c.in-Ok-Some.field-0-0 (rw c.in-Ok-Some.field-0-is at c.in-Ok-Some.ensures.row))
+    passed_agreeing s c.args.line.now c.args.wanted.now _ (row_agrees c.shapes_say_words.ensures c.args.wanted.now s.delimiter.byte s.reading s.columns.items c.args.line.now c.read_cells.new.row.items c.in-Ok-Some.field-0-0 (rw c.in-Ok-Some.field-0-is at c.in-Ok-Some.ensures.row))
 
 pub returns-in-Ok-None-clause-passed : goal.returns-in-Ok-None-clause-passed
 returns-in-Ok-None-clause-passed c = passed_none c.args.schema.now c.args.line.now (rw c.in-Ok-None.field-0-is at c.in-Ok-None.ensures.row)
 
 pub returns-in-Err-clause-right : goal.returns-in-Err-clause-right
-returns-in-Err-clause-right c = rw c.record_fault.ensures (refused_right c.args.schema.now c.args.place c.args.line.now c.in-Err.fault c.in-Err.ensures.refused)
+returns-in-Err-clause-right c = rw c.record_fault.ensures (refused_right c.shapes_say_words.ensures c.args.schema.now c.args.place c.args.line.now c.in-Err.fault c.in-Err.ensures.refused)

@@ -1,14 +1,12 @@
 -- A filter with valid literals that can be written is read back as itself.
-use Rattle.std.proofs.Common.{◌≡◌, ◌⊎◌, inl, inr, ℕ, zero, suc, List, [], ◌∷◌, ◌++◌, map, ap, sym, subst, ◌∙◌, Result, Ok, Err, IfOk, true≢false}
+use Rattle.std.proofs.Common.{◌≡◌, ◌⊎◌, inl, inr, ℕ, List, [], ◌++◌, map, ap, sym, subst, ◌∙◌, Result, Ok, Err, IfOk, true≢false}
 use Rattle.std.specs.Prelude.{IsErr}
-use Rattle.std.specs.List.{AllByRecursion}
 use Rattle.std.specs.Result.{IsErrAnd}
 use Rattle.vortex_dtype.specs.declared.types.DType.{DType}
-use Rattle.vortex_cells.specs.Cells.{Cell}
 use Rattle.vortex_filter.specs.FilterLiterals.{AreValid, FormulasSayLiterals, exactly_of, literals_of}
-use Rattle.vortex_filter.specs.Formula.{Formula, constant, comparison, null_test, membership, range, prefix_test, both, either, negation}
 use Rattle.filter_encoding.specs.Answers.{ReadsAs}
-use Rattle.filter_encoding.specs.Encoding.{CanBeWritten, HasEncoding, Prepared, encoding, parts_of, prepared}
+use Rattle.filter_encoding.specs.Encoding.{CanBeWritten, HasEncoding, Prepared, encoding, parts_of, prepared, version_of}
+use Rattle.filter_encoding.proofs.EncodingLaws.{written_version}
 use Rattle.filter_encoding.specs.declared.error.FilterEncodingError.{FilterEncodingError}
 use Rattle.filter_encoding.specs.declared.error.FilterEncodingError.TheVariants.{NoEncoding, OutOfMemory}
 use Rattle.filter_encoding.specs.declared.prepared.PreparedFilter.{PreparedFilter}
@@ -51,6 +49,6 @@ returns c =
     let is = c.deref-2.ensures.value ∙ written given c.deref.result.now c.new-bytes.result.items c.append_filter.new.out.items c.deref.ensures.value c.new-bytes.ensures.items c.in_ok-append_filter.ensures.appended in
     let has : AreValid (literals_of given.filter) → HasEncoding c.args.depth (prepared given) = λ right. subst (λ (ds : List DType). HasEncoding c.args.depth (parts_of ds given.filter)) c.deref.ensures.value (c.in_ok-append_filter.ensures.readable right) in
     record {
-      same = λ can right. c.read_filter.ensures.whole (prepared given) (has right) is;
-      literals = λ right. kept c.formulas_say_literals.ensures given c.read_filter.result (c.read_filter.ensures.whole (prepared given) (has right) is) c.read_filter.ensures.valid right;
+      same = λ can right. c.read_filter.ensures.whole (version_of (prepared given)) (prepared given) (written_version (prepared given)) (has right) is;
+      literals = λ right. kept c.formulas_say_literals.ensures given c.read_filter.result (c.read_filter.ensures.whole (version_of (prepared given)) (prepared given) (written_version (prepared given)) (has right) is) c.read_filter.ensures.valid right;
     }

@@ -15,6 +15,7 @@ loop-text-init g c = record {
   full = λ before bytes long is. begun _ _ _ _ _ before bytes _ (search rules) long is;
   sizes = λ bytes is. none_sized _ _ bytes _ (search rules) is;
   nulls = λ bytes is. none_summed _ _ bytes _ is;
+  longer = λ bytes is. none_summed _ _ bytes _ is;
   sifted = λ bytes is. rest_none_at (g.D.Records.is_refused c.args.describer.now) (g.D.Records.delimiter c.args.describer.now) bytes _ c.args.start is;
   onward = omega arith;
   fits = omega (arith, c.ranges.start);
@@ -38,6 +39,11 @@ returns-then-is_empty-clause-nulls g c =
     let none : c.take_records.new.text.items ≡ [] = first_of (search (rules, nil_from_length), grind (arith, common_steps, nil_from_length)) in
     λ bytes is. let s = c.loop-text.invariant.nulls bytes is in all_summed _ _ bytes _ _ s (c.in_ok-take_records.ensures.ended s.rest s.is none)
 
+pub returns-then-is_empty-clause-longer : goal.returns-then-is_empty-clause-longer
+returns-then-is_empty-clause-longer g c =
+    let none : c.take_records.new.text.items ≡ [] = first_of (search (rules, nil_from_length), grind (arith, common_steps, nil_from_length)) in
+    λ bytes is. let s = c.loop-text.invariant.longer bytes is in all_summed _ _ bytes _ _ s (c.in_ok-take_records.ensures.ended s.rest s.is none)
+
 pub loop-text-preserved : goal.loop-text-preserved
 loop-text-preserved g c =
     let d = g.D.Records.delimiter c.args.describer.now in
@@ -57,8 +63,12 @@ loop-text-preserved g c =
           c.delimiter_byte-delimiter.ensures (c.in_ok-take_records.ensures.taken s.rest s.is) (c.in_ok-take_records.ensures.many s.rest s.is) some c.deref.ensures.value c.in_ok-zone.ensures.zone.records c.in_ok-push.ensures.items;
       nulls = λ bytes is.
           let s = c.loop-text.invariant.nulls bytes is in
-          one_summed d c.delimiter_byte-delimiter.result.byte (g.D.Describer.nulls_of c.args.describer.now) bytes c.take_records.new.text.items c.deref.result.now _ (g.B.Read.remaining c.take_records.new.reader) c.loop-text.nulls c.in_ok-zone.more c.saturating_add-nulls.result s
+          one_summed d c.delimiter_byte-delimiter.result.byte (g.D.Describer.nulls_of c.args.describer.now) bytes c.take_records.new.text.items c.deref.result.now _ (g.B.Read.remaining c.take_records.new.reader) c.loop-text.nulls c.in_ok-zone.more_nulls c.saturating_add-nulls.result s
           c.delimiter_byte-delimiter.ensures (c.in_ok-take_records.ensures.taken s.rest s.is) c.deref.ensures.value c.in_ok-zone.ensures.nulls c.saturating_add-nulls.ensures;
+      longer = λ bytes is.
+          let s = c.loop-text.invariant.longer bytes is in
+          one_summed d c.delimiter_byte-delimiter.result.byte (g.D.Describer.longer_of c.args.describer.now) bytes c.take_records.new.text.items c.deref.result.now _ (g.B.Read.remaining c.take_records.new.reader) c.loop-text.longer c.in_ok-zone.more_longer c.saturating_add-longer.result s
+          c.delimiter_byte-delimiter.ensures (c.in_ok-take_records.ensures.taken s.rest s.is) c.deref.ensures.value c.in_ok-zone.ensures.longer c.saturating_add-longer.ensures;
       sifted = λ bytes is.
           let s = c.loop-text.invariant.sifted bytes is in
           rest_more (g.D.Records.is_refused c.args.describer.now) d c.delimiter_byte-delimiter.result.byte bytes c.take_records.new.text.items c.deref.result.now _ (g.B.Read.remaining c.take_records.new.reader) (c.loop-text.first - c.args.start) _ s

@@ -1,4 +1,4 @@
--- The zones so far are an index of what was taken, of so many records each, and the nulls are counted.
+-- The zones so far are an index of what was taken, of so many records each, and the nulls and the longer records are counted.
 use Rattle.std.proofs.Common.{◌≡◌, ◌≤◌, ◌<◌, ◌++◌, ◌-◌, ◌^◌, ℕ, List, Some, length}
 use Rattle.zone_index.proofs.Begun.{IsBegun}
 use Rattle.zone_index.proofs.Sifting.{SiftedRest}
@@ -13,6 +13,7 @@ invariant-loop-text g l = record {
       → IsBegun (g.D.Records.delimiter l.describer) (g.D.Records.has_row l.describer) (g.D.Describer.DescribesFully l.describer) l.start l.zones.items (before ++ bytes) (g.B.Read.remaining l.reader) l.first;
   sizes : (bytes : List ℕ) → g.B.Read.remaining l.initial.reader ≡ Some bytes → AreSized l.size l.zones.items (g.B.Read.remaining l.reader);
   nulls : (bytes : List ℕ) → g.B.Read.remaining l.initial.reader ≡ Some bytes → Summed (g.D.Records.delimiter l.describer) (g.D.Describer.nulls_of l.describer) bytes (g.B.Read.remaining l.reader) l.nulls;
+  longer : (bytes : List ℕ) → g.B.Read.remaining l.initial.reader ≡ Some bytes → Summed (g.D.Records.delimiter l.describer) (g.D.Describer.longer_of l.describer) bytes (g.B.Read.remaining l.reader) l.longer;
   sifted : (bytes : List ℕ) → g.B.Read.remaining l.initial.reader ≡ Some bytes → SiftedRest (g.D.Records.is_refused l.describer) (g.D.Records.delimiter l.describer) bytes (g.B.Read.remaining l.reader) (l.first - l.start);
   onward : l.start ≤ l.first;
   fits : l.first < 2 ^ 64;

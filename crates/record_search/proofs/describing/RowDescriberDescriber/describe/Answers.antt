@@ -32,7 +32,7 @@ returns-clause-describes c =
     let vector = c.in_ok-columns.columns in
     let held : length slice ≡ vector.len = c.observe_text.auto.statistics ∙ c.deref_mut.ensures.len in
     let rows = rows_under s (records_of s.delimiter.byte c.args.text.now) in
-    c.in_ok-statistics.ensures.right rows (rows_are_typed s.delimiter.byte s.is_lenient s.columns.items (records_of s.delimiter.byte c.args.text.now))
+    c.in_ok-statistics.ensures.right rows (rows_are_typed s.delimiter.byte s.reading s.columns.items (records_of s.delimiter.byte c.args.text.now))
     (subst (AreAllComplete 0 rows) (sym (take_at slice (drop (length slice) vector.items) vector.len held)) c.in_ok-records.ensures.complete)
 
 pub returns-clause-full : goal.returns-clause-full
@@ -42,11 +42,14 @@ returns-clause-full c =
     let vector = c.in_ok-columns.columns in
     let held : length slice ≡ vector.len = c.observe_text.auto.statistics ∙ c.deref_mut.ensures.len in
     let rows = rows_under s (records_of s.delimiter.byte c.args.text.now) in
-    c.in_ok-statistics.ensures.full rows (rows_are_typed s.delimiter.byte s.is_lenient s.columns.items (records_of s.delimiter.byte c.args.text.now))
+    c.in_ok-statistics.ensures.full rows (rows_are_typed s.delimiter.byte s.reading s.columns.items (records_of s.delimiter.byte c.args.text.now))
     (subst (AreAllComplete 0 rows) (sym (take_at slice (drop (length slice) vector.items) vector.len held)) c.in_ok-records.ensures.complete)
 
 pub returns-clause-nulls : goal.returns-clause-nulls
 returns-clause-nulls c = c.in_ok-records.ensures.nulls
+
+pub returns-clause-longer : goal.returns-clause-longer
+returns-clause-longer c = c.in_ok-records.ensures.longer
 
 pub returns-clause-passed : goal.returns-clause-passed
 returns-clause-passed c = c.in_ok-records.ensures.passed
