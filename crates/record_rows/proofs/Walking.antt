@@ -1,5 +1,5 @@
 -- The fields of a record are walked.
-use Rattle.std.proofs.Common.{◌≡◌, ◌≢◌, ◌⊎◌, inl, inr, ◌≤◌, ◌<◌, ◌+◌, ℕ, suc, zero, List, [], ◌∷◌, ◌++◌, Bool, false, true, None, refl, sym, ap, ◌∙◌, subst, length, length-append, drop, append-nil, get_or, arith}
+use Rattle.std.proofs.Common.{◌≡◌, ◌≢◌, inl, inr, ◌≤◌, ◌<◌, ◌+◌, ℕ, suc, zero, List, [], ◌∷◌, ◌++◌, Bool, false, true, None, refl, sym, ap, ◌∙◌, subst, length, length-append, drop, append-nil, get_or, arith}
 use Rattle.std.specs.List.{onto_first}
 use Rattle.std.specs.Prelude.{MatchBool, nat_lt}
 use Rattle.std.proofs.lemmas.Bool.Decides.{nat_tests}
