@@ -1,5 +1,5 @@
 -- Columns of which a filter is asked, and why it cannot be.
-use Rattle.std.specs.Prelude.{◌≡◌, ◌≢◌, ℕ, ◌<◌, List, length, map, slice_index_or, take}
+use Rattle.std.specs.Prelude.{◌≡◌, ◌≢◌, ℕ, ◌<◌, ◌≤◌, List, length, map, slice_index_or, take}
 use Rattle.std.specs.List.{All}
 use Rattle.arrow_columns.specs.Checked.{AreRowsOf}
 use Rattle.arrow_columns.specs.Errors.{IsErrorOf}

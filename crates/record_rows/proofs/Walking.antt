@@ -1,5 +1,5 @@
 -- The fields of a record are walked.
-use Rattle.std.proofs.Common.{◌≡◌, ◌≢◌, ◌⊎◌, inl, inr, ◌≤◌, ◌<◌, ◌+◌, ℕ, suc, zero, List, [], ◌∷◌, ◌++◌, Bool, false, true, None, refl, sym, ap, ◌∙◌, subst, length, length-append, drop, append-nil, get_or, arith}
+use Rattle.std.proofs.Common.{◌≡◌, ◌≢◌, inl, inr, ◌≤◌, ◌<◌, ◌+◌, ℕ, suc, zero, List, [], ◌∷◌, ◌++◌, Bool, false, true, None, refl, sym, ap, ◌∙◌, subst, length, length-append, drop, append-nil, get_or, arith}
 use Rattle.std.specs.List.{onto_first}
 use Rattle.std.specs.Prelude.{MatchBool, nat_lt}
 use Rattle.std.proofs.lemmas.Bool.Decides.{nat_tests}
@@ -53,7 +53,7 @@ none_missing : (l : Bool) (cs : List ColumnType) (i : ℕ) → length cs ≤ i �
 none_missing false cs i h = refl
 none_missing true cs i h = none_past cs i [] h
 
-pub missing_there : (cs : List ColumnType) (i : ℕ) (d : ColumnType) → i < length cs → (get_or cs i d).nullability ≡ Nullable → missing (drop i cs) ≡ no_field ∷ missing (drop (i + 1) cs)
+pub missing_there : (cs : List ColumnType) (i : ℕ) (d : ColumnType) → i < length cs → (get_or cs i d).nullability ≡ Nullable → missing (drop i cs) ≡ no_field ∷ missing (drop (suc i) cs)
 missing_there [] i d below takes = absurd (omega (arith, below))
 missing_there (c ∷ cs) zero d below takes = rw takes refl
 missing_there (c ∷ cs) (suc i) d below takes = missing_there cs i d (omega (arith, below)) takes
@@ -73,7 +73,13 @@ fitted_missing true cs e = e
 
 -- whether the next column takes a null in place of a field that is missing
 pub misses : (walk : FieldWalk) (d : ColumnType) → walk.place < length walk.columns.now → (get_or walk.columns.now walk.place d).nullability ≡ Nullable → (b : Bool) → walk.is_lenient ≡ b → MatchBool b (IsMissing walk []) (fitted b (drop walk.place walk.columns.now) [] ≡ [])
-misses walk d below takes true e = record { lenient = e; rest_is = refl; next = missing_there walk.columns.now walk.place d below takes }
+misses walk d below takes true e =
+    let one : suc walk.place ≡ walk.place + 1 = omega arith in
+    record {
+      lenient = e;
+      rest_is = refl;
+      next = subst (λ (n : ℕ). missing (drop walk.place walk.columns.now) ≡ no_field ∷ missing (drop n walk.columns.now)) one (missing_there walk.columns.now walk.place d below takes);
+    }
 misses walk d below takes false e = refl
 
 as_missing : (l : Bool) (cs : List ColumnType) → l ≡ true → fitted l cs [] ≡ missing cs
@@ -273,11 +279,11 @@ takes_none l c takes = (false, (null, rw takes refl))
 
 missing_fault : (l : Reading) (n : ℕ) (cs : List ColumnType) (next : List Field) (others : List (List Field)) → IsFirstError l n cs (missing cs) (next ∷ others) errors.LoneReturn
 missing_fault l n [] next others = refl
-missing_fault l n (c ∷ cs) next others = by_column c.nullability refl
+missing_fault l n (c ∷ cs) next others = by_column (missing_fault l (suc n) cs next others) c.nullability refl
   where
-    by_column : (m : Nullability) → c.nullability ≡ m → IsFirstError l n (c ∷ cs) (missing_before m (missing cs)) (next ∷ others) errors.LoneReturn
-    by_column Nullable e = inr (takes_none l c e, missing_fault l (suc n) cs next others)
-    by_column NonNullable e = refl
+    by_column : IsFirstError l (suc n) cs (missing cs) (next ∷ others) errors.LoneReturn → (m : Nullability) → c.nullability ≡ m → IsFirstError l n (c ∷ cs) (missing_before m (missing cs)) (next ∷ others) errors.LoneReturn
+    by_column rest Nullable e = inr (takes_none l c e, rest)
+    by_column rest NonNullable e = refl
 
 return_fault : (l : Reading) (n : ℕ) (cs : List ColumnType) (next : List Field) (others : List (List Field)) (b : Bool) → IsFirstError l n cs (fitted b cs []) (next ∷ others) errors.LoneReturn
 return_fault l n cs next others false = bare_fault l n cs next others

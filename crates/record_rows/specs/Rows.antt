@@ -1,6 +1,7 @@
 -- The row of a record.
 use Rattle.std.specs.Prelude.{◌≡◌, ◌≢◌, ◌<◌, ◌≤◌, ◌⊎◌, ◌++◌, ℕ, suc, List, [], ◌∷◌, Bool, false, true, count_by, length, slice_index_or}
 use Rattle.csv_records.specs.Rows.{Field, field_rows, rows_of}
+use Rattle.vortex_dtype.specs.declared.nullability.Nullability.{Nullability}
 use Rattle.vortex_dtype.specs.declared.nullability.Nullability.TheVariants.{NonNullable, Nullable}
 use Rattle.vortex_value.specs.Values.Content.{null}
 use Rattle.vortex_value.specs.Values.Scalars.{IsValid, scalar_content, scalar_type}

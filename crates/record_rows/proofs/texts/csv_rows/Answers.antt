@@ -5,7 +5,7 @@ use Rattle.std.proofs.lemmas.List.{map-append}
 use Rattle.csv.specs.Reading.{strip_bom, with_flexible, with_names_headers}
 use Rattle.csv.specs.declared.parser.Config.{Config}
 use Rattle.csv.specs.Records.{fields_of}
-use Rattle.record_rows.proofs.CsvReads.{row_more, row_none}
+use Rattle.record_rows.proofs.CsvReads.{not_read, row_more, row_none}
 use Rattle.record_rows.proofs.texts.csv_rows.Goals as goal
 
 pub loop-row-init : goal.loop-row-init
@@ -30,14 +30,22 @@ loop-row-init c =
 pub loop-row-preserved : goal.loop-row-preserved
 loop-row-preserved c =
     let inv = c.loop-row.invariant in
-    let s = rw (c.in-Some.is, c.in_ok-row.was) at ((c.next.ensures.steps inv.2 inv.0).0 inv.1) in
+    let steps = c.next.ensures.steps inv.2 inv.0 in
+    let s = rw (c.in-Some.is, c.in-Ok.is) at (steps.0 inv.1) in
+    let flexible = rw (c.in-Some.is, c.in-Ok.is) at steps.3 in
     let good : is_ok c.push.result ≡ true = search rules in
     let items = rw good at c.push.ensures.items in
-    let more = row_more c.rows_are_read.ensures (λ (s : Bor (List ℕ)). Some s.now) c.loop-row.row-iterator.rdr c.next.new.self.rdr c.args.delimiter.byte (fields_of c.in_ok-row.field-0) inv.4 (map fields_of c.loop-row.rows.items) _ inv.3 inv.5 s.0 inv.6 in
-    (s.0.3 ∙ inv.0, inl s.1, s.2, s.0.2 ∙ inv.3, more.0, more.1, rw (items, map-append fields_of c.loop-row.rows.items (c.in_ok-row.field-0 ∷ [])) more.2, flexible ∙ inv.7)
+    let more = row_more c.rows_are_read.ensures (λ (s : Bor (List ℕ)). Some s.now) c.loop-row.row-iterator.rdr c.next.new.self.rdr c.args.delimiter.byte (fields_of c.in-Ok.row) inv.4 (map fields_of c.loop-row.rows.items) _ inv.3 inv.5 s.0 inv.6 in
+    (s.0.3 ∙ inv.0, inl s.1, s.2, s.0.2 ∙ inv.3, more.0, more.1, rw (items, map-append fields_of c.loop-row.rows.items (c.in-Ok.row ∷ [])) more.2, flexible ∙ inv.7)
 
-pub returns : goal.returns
-returns c =
+pub returns-in-Err-clause-refused : goal.returns-in-Err-clause-refused
+returns-in-Err-clause-refused c =
+    let inv = c.loop-row.invariant in
+    let why = rw (c.in-Some.is, c.in-Err.is) at ((c.next.ensures.steps inv.2 inv.0).0 inv.1) in
+    rw c.into_kind.ensures (not_read (λ (s : Bor (List ℕ)). Some s.now) c.loop-row.row-iterator.rdr c.next.new.self.rdr _ inv.7 why)
+
+pub returns-clause-rows : goal.returns-clause-rows
+returns-clause-rows c =
     let inv = c.loop-row.invariant in
     let s = rw c.in-None.is at ((c.next.ensures.steps inv.2 inv.0).0 inv.1) in
     row_none c.rows_are_read.ensures (λ (s : Bor (List ℕ)). Some s.now) c.loop-row.row-iterator.rdr c.next.new.self.rdr c.args.delimiter.byte [] inv.4 _ _ inv.3 inv.5 s inv.6

@@ -11,14 +11,14 @@ use Rattle.zone_map.proofs.NullLines.{BeginsWithNull, begins_with_null, no_nulls
 use Rattle.zone_map.proofs.setup.nulls_of_lines.Goals as goal
 
 pub loop-line-init : goal.loop-line-init
-loop-line-init c = (λ s setup is. (s.nulls, setup.nulls, is, refl), search rules)
+loop-line-init c = (λ s setup is. (s.nulls, setup.nulls, is, rw c.new-nulls.ensures.items refl), search rules)
 
-pub returns-in_default : goal.returns-in_default
-returns-in_default c = λ s setup is.
+pub returns-in_default-split_once : goal.returns-in_default-split_once
+returns-in_default-split_once c = λ s setup is.
     let so_far = c.loop-line.invariant.0 s setup is in
     let begins = strip_text (codes "null ") c.loop-line.rest.now (Some c.in-Some.line) c.in-Some.ensures.cases in
     let head : BeginsWithNull s c.in-Some.line.now so_far.0 = begins_with_null s c.loop-line.rest.now c.in-Some.line.now so_far.0 setup so_far.1 so_far.2 begins in
-    split_after 10 c.in-Some.line.now head.null (null_lines head.more ++ setup_lines s) None c.in_default.ensures.cases (omega arith) head.is (λ i h. head.one_line i 0 h)
+    split_after 10 c.in-Some.line.now head.null (null_lines head.more ++ setup_lines s) None c.in_default-split_once.ensures.cases (omega arith) head.is (λ i h. head.one_line i 0 h)
 
 pub loop-line-preserved : goal.loop-line-preserved
 loop-line-preserved c = (

@@ -1,8 +1,9 @@
 -- The next field, and why there is none.
-use Rattle.std.proofs.Common.{◌≡◌, ◌<◌, ap, ◌∙◌, arith, cond, length, refl, List, ℕ}
+use Rattle.std.proofs.Common.{◌≡◌, ◌<◌, ◌+◌, ap, ◌∙◌, arith, cond, get_or, length, List, ℕ}
 use Rattle.std.proofs.lemmas.List.{get_or_default}
 use Rattle.std.proofs.lemmas.Result.{err_from_is_err_and}
 use Rattle.csv_records.specs.Rows.{Field}
+use Rattle.record_rows.specs.declared.fields.FieldWalk.{FieldWalk}
 use Rattle.record_rows.proofs.Walking.{is_last, is_next, memory_asked, walk_ends}
 use Rattle.record_rows.proofs.fields.FieldWalk.next_field.Goals as goal
 
@@ -23,7 +24,7 @@ returns-clause-next c = λ d r columns bytes fields h.
     let start = rw c.in-Some.is at c.in_ok-rest.ensures.start in
     let same = rw c.in-Some.is at c.in_ok-rest.ensures.stays in
     is_next d r columns bytes c.in-Some.rest.now c.args.self.now _ fields _ (record { text = text; is_quoted = quoted }) h start (rw same at c.in_ok-cut.ensures) (ap (λ w. w.delimiter) same) (ap (λ w. w.is_lenient) same) (ap (λ w. w.is_longer) same) (ap (λ w. w.columns) same) (ap (λ w. w.place + 1) same) (ap (λ w. w.place) same)
-    (get_or_default c.args.self.now.columns.now c.args.self.now.place _ _ start.0) (ap (λ (t : List ℕ). let f : Field = record { text = t; is_quoted = quoted } in f) word)
+    (ap (λ (w : FieldWalk). get_or w.columns.now w.place c.index-self-self.result) same ∙ get_or_default c.args.self.now.columns.now c.args.self.now.place _ _ start.0) (ap (λ (t : List ℕ). let f : Field = record { text = t; is_quoted = quoted } in f) word)
 
 pub returns-in_err-cut-clause-refused : goal.returns-in_err-cut-clause-refused
 returns-in_err-cut-clause-refused c =
