@@ -1,3 +1,5 @@
 pub mod Guesses
+pub mod KindExamples
+pub mod Kinds
 pub mod Names
 pub mod Setups
