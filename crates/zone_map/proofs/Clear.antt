@@ -1,16 +1,16 @@
 -- Texts without a byte, and where they are cut at one.
 use Rattle.std.proofs.Common.{◌≡◌, ◌≢◌, ◌<◌, ◌≤◌, ◌^◌, ℕ, zero, suc, Bool, true, false, cond, eqb, List, [], ◌∷◌, ◌++◌, length, get_or, subst, arith, ◌∙◌, ap, sym, refl}
-use Rattle.std.specs.Prelude.{All, Err, None, Ok, Result, Some, codes}
+use Rattle.std.specs.Prelude.{All, Err, None, Ok, Result, Some, codes, string_bytes}
 use Rattle.std.specs.Char.{digit_value}
 use Rattle.std.specs.Fmt.{decimal}
-use Rattle.std.specs.Str.Parse.{AllDigits}
+use Rattle.std.specs.Str.Parse.{AllDigits, ParsesUnsigned}
 use Rattle.std.proofs.lemmas.Bool.{ne_eqb}
 use Rattle.std.proofs.lemmas.Fmt.{decimal_is_IsNumeral}
 use Rattle.std.proofs.lemmas.List.{append_assoc, length-append, map-append}
 use Rattle.std.proofs.lemmas.List.Elements.{All-append, All-cons, All-nil}
 use Rattle.zone_map.specs.Names.{IsName}
 use Rattle.zone_map.specs.declared.column_words.NamedColumn.{NamedColumn}
-use Rattle.zone_map.specs.Setups.{ColumnValue, FitNumbers, HaveNames, column_line, column_lines, column_value, column_values, kind_text, kind_word, mark_of, numbers_text}
+use Rattle.zone_map.specs.Setups.{ColumnValue, FitNumbers, HaveNames, column_line, column_lines, column_value, column_values, kind_text, kind_word, mark_of, numbers_text, SaysNumber}
 use Rattle.logical_types.specs.Names.{decimal_name}
 use Rattle.logical_types.specs.declared.times.TimeUnit.TheVariants.{Seconds, Milliseconds, Microseconds, Nanoseconds}
 use Rattle.logical_types.specs.declared.logical.DecimalType.{DecimalType}
@@ -247,3 +247,17 @@ pub one_column_more : (columns others more : List ColumnValue) (c : ColumnValue)
 one_column_more columns others more c old x are is same =
     are ∙ ap (λ (o : List ColumnValue). column_values old ++ o) (is ∙ ap (λ (y : ColumnValue). y ∷ more) (sym same))
     ∙ sym (append_assoc (column_values old) (column_value x ∷ []) more) ∙ ap (λ (l : List ColumnValue). l ++ more) (sym (map-append column_value old (x ∷ [])))
+
+-- each column so far has a name, and so has one more
+pub names_more : (columns : List NamedColumn) (named : NamedColumn) → HaveNames (column_values columns) → IsName (string_bytes named.name) → HaveNames (column_values (columns ++ named ∷ []))
+names_more [] named names name = (name, tt)
+names_more (c ∷ cs) named names name = (names.0, names_more cs named names.1 name)
+
+-- what `parse` reads of a word
+pub says_parsed : {E : Type 0} → (word : List ℕ) (n : ℕ) (r : Result ℕ E) → r ≡ Ok n → ParsesUnsigned 64 10 word r → SaysNumber word n
+says_parsed word n r is parsed = let p = subst (λ (x : Result ℕ _). ParsesUnsigned 64 10 word x) is parsed in record { digits = p.0.0; value = sym p.1 }
+
+-- a line that is cut at its first three blanks
+pub says_joined : (line a b rows front middle last : List ℕ) → line ≡ front ++ 32 ∷ a → a ≡ middle ++ 32 ∷ b → b ≡ last ++ 32 ∷ rows → line ≡ front ++ 32 ∷ (middle ++ 32 ∷ (last ++ 32 ∷ rows))
+says_joined line a b rows front middle last first second third =
+    first ∙ ap (λ (x : List ℕ). front ++ 32 ∷ x) (second ∙ ap (λ (x : List ℕ). middle ++ 32 ∷ x) third)

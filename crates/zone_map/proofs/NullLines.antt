@@ -10,6 +10,8 @@ use Rattle.std.specs.Str.Pattern.{FindsTextPrefix}
 use Rattle.std.specs.declared.string.String.{String}
 use Rattle.std.proofs.lemmas.Fmt.{decimal_is_IsNumeral}
 use Rattle.std.proofs.lemmas.List.{append_assoc, map-append}
+use Rattle.std.proofs.lemmas.List.Elements.{All-from_get_or}
+use Rattle.std.proofs.lemmas.Str.Pattern.{IsSplitOnceResult, split_parts}
 use Rattle.zone_map.specs.Names.{IsLine, texts}
 use Rattle.zone_map.specs.Setups.{AreLines, FitNumbers, IsSetup, SetupValue, null_lines, setup_lines}
 
@@ -63,3 +65,13 @@ pub one_null_more : (all others more : List (List ℕ)) (null : List ℕ) (old :
 one_null_more all others more null old x are is same =
     are ∙ ap (λ (o : List (List ℕ)). texts old ++ o) (is ∙ ap (λ (y : List ℕ). y ∷ more) (sym same))
     ∙ sym (append_assoc (texts old) (string_bytes x ∷ []) more) ∙ ap (λ (l : List (List ℕ)). l ++ more) (sym (map-append string_bytes old (x ∷ [])))
+
+-- each word so far and one more
+pub lines_more : (words : List (String Global)) (word : String Global) → AreLines (texts words) → IsLine (string_bytes word) → AreLines (texts (words ++ word ∷ []))
+lines_more [] word lines line = (line, tt)
+lines_more (w ∷ ws) word lines line = (lines.0, lines_more ws word lines.1 line)
+
+-- what stands before a line feed is a line
+pub line_before : (text : List ℕ) (front back : Bor (List ℕ)) → IsSplitOnceResult 10 text (Some (front, back)) → IsLine front.now
+line_before text front back cut =
+    All-from_get_or (λ b. b ≢ 10) front.now 0 (split_parts 10 text (Some (front, back)) cut (omega arith)).1

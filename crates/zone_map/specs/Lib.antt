@@ -1,3 +1,7 @@
+pub mod GuessExamples
 pub mod Guesses
+pub mod KindExamples
+pub mod Kinds
 pub mod Names
 pub mod Setups
+pub mod Zones

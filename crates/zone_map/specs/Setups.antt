@@ -1,7 +1,8 @@
 -- How a file is read, as a text.
-use Rattle.std.specs.Prelude.{◌<◌, ◌^◌, ◌++◌, ◌∷◌, ℕ, List, [], codes, map, string_bytes, if◌then◌else◌}
+use Rattle.std.specs.Prelude.{◌≡◌, ◌<◌, ◌^◌, ◌++◌, ◌∷◌, ℕ, List, [], codes, map, string_bytes, if◌then◌else◌}
 use Rattle.std.specs.List.{AllByRecursion, flat_map}
 use Rattle.std.specs.Fmt.{decimal}
+use Rattle.std.specs.Str.Parse.{IsNumeral, digits_value, without_leading_plus}
 use Rattle.zone_map.specs.Names.{IsLine, IsName, texts}
 use Rattle.logical_types.specs.Names.{name_of}
 use Rattle.record_rows.specs.declared.schema.ColumnType.{ColumnType}
@@ -89,6 +90,23 @@ setup_lines s = numbers_text s.numbers ++ 10 ∷ column_lines s.columns
 
 abbrev pub setup_text : SetupValue → List ℕ
 setup_text s = null_lines s.nulls ++ setup_lines s
+
+-- the word is digits, perhaps behind a plus, and this is their number
+pub record SaysNumber (word : List ℕ) (n : ℕ) : Type 0 where
+  pub digits : IsNumeral 10 (without_leading_plus word)
+  pub value : digits_value 10 (without_leading_plus word) ≡ n
+
+-- the line is four such words with a blank between two, and these are their numbers; that of the flag is 0 or 1
+pub record SaysNumbers (line : List ℕ) (n : Numbers) : Type 0 where
+  pub delimiter : List ℕ
+  pub lenient : List ℕ
+  pub bound_length : List ℕ
+  pub zone_rows : List ℕ
+  pub text : line ≡ delimiter ++ 32 ∷ (lenient ++ 32 ∷ (bound_length ++ 32 ∷ zone_rows))
+  pub delimiter_is : SaysNumber delimiter n.delimiter
+  pub lenient_is : SaysNumber lenient (if n.is_lenient then 1 else 0)
+  pub bound_length_is : SaysNumber bound_length n.bound_length
+  pub zone_rows_is : SaysNumber zone_rows n.zone_rows
 
 -- the numbers are those of their types
 pub record FitNumbers (n : Numbers) : Type 0 where

@@ -1,9 +1,10 @@
 //! Files that grew since they were indexed.
 
-ghost use Rattle.std.specs.Prelude.{◌≡◌};
+ghost use Rattle.std.specs.Prelude.{◌≡◌, MatchBool};
 ghost use Rattle.csv_records.specs.Records.{is_start, state_at};
 ghost use Rattle.csv_records.specs.Rows.{state_after};
 ghost use Rattle.csv_records.specs.declared.states.RecordState.TheVariants.{StartRecord};
+ghost use Rattle.zone_map.specs.Zones.{IsOnly};
 
 use csv_records::{Delimiter, RecordState, state_after_line};
 use record_search::{RowDescriber, index_rows};
@@ -88,7 +89,9 @@ fn is_same_zone(
 }
 
 /// Whether there is this zone alone.
-fn is_only_zone(zones: &[Zone], zone: &Zone) -> bool {
+fn is_only_zone(zones: &[Zone], zone: &Zone) -> bool
+    ensures { MatchBool result (IsOnly zones.now zone.now) (¬ (IsOnly zones.now zone.now)) }
+{
     match zones {
         [only] => {
             only.length == zone.length

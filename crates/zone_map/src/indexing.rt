@@ -1,5 +1,8 @@
 //! An index is made, or extended.
 
+ghost use Rattle.std.specs.Prelude.{◌⊎◌};
+ghost use Rattle.zone_map.specs.Zones.{GoesOn, Reopens};
+
 use crate::column_words::NamedColumn;
 use crate::commands::IndexRequest;
 use crate::files::{at_place, buffered, from_place, open_file, save, stamp_of};
@@ -16,7 +19,7 @@ use record_search::{RowDescriber, Schema, index_rows};
 use std::alloc::Global;
 use std::fs::File;
 use std::process::ExitCode;
-use zone_index::{Index, Indexed};
+use zone_index::{Index, Indexed, Zone};
 
 /// How many bytes a decimal of more than 18 digits is stored in.
 const WIDE_LENGTH: usize = 16;
@@ -126,7 +129,7 @@ fn without_zones(alloc: Global, setup: Setup, start: u64) -> Result<Loaded, Prog
 fn extended(rt: &HostRuntime, name: &str, file: &mut File) -> Result<Unfinished, ProgramError> {
     let mut loaded = load_there(rt, name)?;
     let end = grown_by(rt, name, &loaded, file)?;
-    let place = open_place(&mut loaded.index, loaded.setup.numbers.zone_rows, end);
+    let place = open_place(&mut loaded.index.zones, loaded.setup.numbers.zone_rows, end);
     Ok(Unfinished { loaded, place })
 }
 
@@ -150,15 +153,18 @@ fn grown_by(
 }
 
 /// Where the next zone begins, without a last one of fewer records, which is taken away.
-fn open_place(index: &mut Index, zone_rows: u64, end: u64) -> u64 {
-    let Some(zone) = index.zones.last() else {
+fn open_place(zones: &mut Vec<Zone>, zone_rows: u64, end: u64) -> u64
+    ensures { Reopens zone_rows zones.old.items zones.new.items result
+        ⊎ GoesOn zone_rows end zones.old.items zones.new.items result }
+{
+    let Some(zone) = zones.last() else {
         return end;
     };
     if zone.records >= zone_rows {
         return end;
     }
     let place = zone.first;
-    index.zones.pop();
+    zones.pop();
     place
 }
 

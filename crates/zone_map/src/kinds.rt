@@ -1,6 +1,18 @@
 //! The kinds that fit the words of a column.
 
-use logical_types::{day_of_word, f64_storage_of_word, timestamp_of_word};
+ghost use Rattle.std.specs.Prelude.{◌≡◌, ◌≢◌, ◌∷◌, ◌++◌, [], ℕ, All, IfNone, IfSome, List, false, is_some, option_map, true};
+ghost use Rattle.std.specs.List.{find};
+ghost use Rattle.std.specs.Option.{option_and_then};
+ghost use Rattle.logical_types.specs.Shapes.{decimals, shape_of, storage_in};
+ghost use Rattle.record_rows.specs.Cells.{HasMeaning};
+ghost use Rattle.record_rows.specs.declared.schema.Kind.TheVariants.{Utf8};
+ghost use Rattle.vortex_dtype.specs.declared.ptype.PType.TheVariants.{I64, U64};
+ghost use Rattle.zone_map.specs.Kinds.{AreOf, Guessed, IsGuessed, Sees, all_write, are_digits, are_numbers_as_texts, decimals_for};
+ghost use Rattle.zone_map.specs.Kinds.{digits_of, fraction_of, guess_of, is_integer, is_plain, is_size, is_whole, is_zero};
+ghost use Rattle.zone_map.specs.Kinds.{is_texts, logical_for, size_of, timestamp_types, whole_of};
+
+use logical_types::laws::shapes_say_words;
+use logical_types::storage_of_word;
 use record_rows::{DecimalType, Kind, LogicalType, TimeUnit};
 use std::str;
 use vortex_dtype::PType;
@@ -10,6 +22,30 @@ const FEW_DIGITS: usize = 18;
 
 /// How many digits a decimal has at most.
 const MOST_DIGITS: usize = 38;
+
+/// Microseconds without a zone.
+const LOCAL: LogicalType = LogicalType::Timestamp {
+    unit: TimeUnit::Microseconds,
+    is_zoned: false,
+};
+
+/// Microseconds with an offset.
+const ZONED: LogicalType = LogicalType::Timestamp {
+    unit: TimeUnit::Microseconds,
+    is_zoned: true,
+};
+
+/// Nanoseconds without a zone.
+const FINE_LOCAL: LogicalType = LogicalType::Timestamp {
+    unit: TimeUnit::Nanoseconds,
+    is_zoned: false,
+};
+
+/// Nanoseconds with an offset.
+const FINE_ZONED: LogicalType = LogicalType::Timestamp {
+    unit: TimeUnit::Nanoseconds,
+    is_zoned: true,
+};
 
 /// What the words of a column are, as far as they were seen.
 #[derive(Clone, Copy)]
@@ -32,7 +68,7 @@ pub struct Guess {
 
 /// How many digits numbers have at most.
 #[derive(Clone, Copy)]
-struct Digits {
+pub(crate) struct Digits {
     /// Before the point.
     whole: usize,
     /// Behind the point.
@@ -41,14 +77,14 @@ struct Digits {
 
 /// Which timestamps words are.
 #[derive(Clone, Copy)]
-struct Timestamps {
-    /// Microseconds without a zone.
+pub(crate) struct Timestamps {
+    /// Whether each is one of microseconds without a zone.
     local: bool,
-    /// Microseconds with an offset.
+    /// Whether each is one of microseconds with an offset.
     zoned: bool,
-    /// Nanoseconds without a zone.
+    /// Whether each is one of nanoseconds without a zone.
     fine_local: bool,
-    /// Nanoseconds with an offset.
+    /// Whether each is one of nanoseconds with an offset.
     fine_zoned: bool,
 }
 
@@ -62,35 +98,50 @@ impl Timestamps {
     };
 
     /// What is known after one more word.
-    fn after(self, word: &[u8]) -> Timestamps {
+    fn after(self, word: &[u8]) -> Timestamps
+        ensures { (words : List (List ℕ)) → AreOf words self → AreOf (words ++ word.now ∷ []) result }
+    {
         Timestamps {
-            local: self.local && is_timestamp(TimeUnit::Microseconds, false, word),
-            zoned: self.zoned && is_timestamp(TimeUnit::Microseconds, true, word),
-            fine_local: self.fine_local && is_timestamp(TimeUnit::Nanoseconds, false, word),
-            fine_zoned: self.fine_zoned && is_timestamp(TimeUnit::Nanoseconds, true, word),
+            local: still_write(self.local, LOCAL, word),
+            zoned: still_write(self.zoned, ZONED, word),
+            fine_local: still_write(self.fine_local, FINE_LOCAL, word),
+            fine_zoned: still_write(self.fine_zoned, FINE_ZONED, word),
         }
     }
 
     /// The type that fits all words, if there is one: of microseconds if these do.
-    fn logical(self) -> Option<LogicalType> {
-        let (unit, is_zoned) = if self.local {
-            (TimeUnit::Microseconds, false)
+    fn logical(self) -> Option<LogicalType>
+        ensures { (words : List (List ℕ)) → AreOf words self
+            → option_map shape_of result ≡ find (all_write words) timestamp_types }
+    {
+        if self.local {
+            Some(LOCAL)
         } else if self.zoned {
-            (TimeUnit::Microseconds, true)
+            Some(ZONED)
         } else if self.fine_local {
-            (TimeUnit::Nanoseconds, false)
+            Some(FINE_LOCAL)
         } else if self.fine_zoned {
-            (TimeUnit::Nanoseconds, true)
+            Some(FINE_ZONED)
         } else {
-            return None;
-        };
-        Some(LogicalType::Timestamp { unit, is_zoned })
+            None
+        }
     }
 }
 
-/// Whether a word is such a timestamp.
-fn is_timestamp(unit: TimeUnit, is_zoned: bool, word: &[u8]) -> bool {
-    timestamp_of_word(unit, is_zoned, word).is_some()
+/// Whether the words before, as is given, and this one write values of a logical type.
+fn still_write(before: bool, logical: LogicalType, word: &[u8]) -> bool
+    ensures { (words : List (List ℕ)) → before ≡ all_write words (shape_of logical)
+        → result ≡ all_write (words ++ word.now ∷ []) (shape_of logical) }
+{
+    before && is_written(logical, word)
+}
+
+/// Whether a word writes a value of a logical type.
+fn is_written(logical: LogicalType, word: &[u8]) -> bool
+    ensures { result ≡ is_some (storage_in (shape_of logical) word.now) }
+{
+    shapes_say_words();
+    storage_of_word(logical, word).is_some()
 }
 
 impl Guess {
@@ -109,21 +160,29 @@ impl Guess {
     };
 
     /// What is known after one more word, which is no null.
-    pub fn after(self, word: &[u8]) -> Guess {
+    pub fn after(self, word: &[u8]) -> Guess
+        ensures { (words : List (List ℕ)) → Sees self words → Sees result (words ++ word.now ∷ []) }
+    {
         let (is_signed, is_unsigned) = integers_of(word);
         Guess {
             is_seen: true,
             fits_signed: self.fits_signed && is_signed,
             fits_unsigned: self.fits_unsigned && is_unsigned,
             decimals: longest(self.decimals, word),
-            are_numbers: self.are_numbers && f64_storage_of_word(word).is_some(),
-            are_dates: self.are_dates && day_of_word(word).is_some(),
+            are_numbers: still_write(self.are_numbers, LogicalType::Float64, word),
+            are_dates: still_write(self.are_dates, LogicalType::Date, word),
             timestamps: self.timestamps.after(word),
         }
     }
 
     /// The kind that fits all words: numbers, dates or timestamps if all are, else strings.
-    pub fn kind(self) -> Kind {
+    pub fn kind(self) -> Kind
+        ensures guessed { (words : List (List ℕ)) → Sees self words → IsGuessed (guess_of words) result }
+        // Each word that was seen is a value of the kind.
+        ensures fits { (words : List (List ℕ)) → Sees self words
+            → result ≢ Utf8 → All (HasMeaning result) words }
+    {
+        shapes_say_words();
         if !self.is_seen {
             return Kind::Utf8;
         }
@@ -140,7 +199,10 @@ impl Guess {
     }
 
     /// The logical type that fits all words, if there is one.
-    fn logical(self) -> Option<LogicalType> {
+    fn logical(self) -> Option<LogicalType>
+        ensures { (words : List (List ℕ)) → Sees self words
+            → option_map shape_of result ≡ logical_for words }
+    {
         if let Some(decimal) = decimal_of(self.decimals) {
             return Some(LogicalType::Decimal(decimal));
         }
@@ -151,70 +213,130 @@ impl Guess {
     }
 
     /// Whether the words are numbers, and the kind is text all the same.
-    pub fn has_numbers_as_text(self) -> bool {
-        let is_text = match self.kind() {
-            Kind::Utf8 => true,
-            _ => false,
-        };
-        self.is_seen && self.are_numbers && is_text
+    pub fn has_numbers_as_text(self) -> bool
+        ensures { (words : List (List ℕ)) → Sees self words → result ≡ are_numbers_as_texts words }
+    {
+        self.is_seen && self.are_numbers && is_text(self.kind())
+    }
+}
+
+/// Whether a kind is that of strings.
+fn is_text(kind: Kind) -> bool
+    ensures { (guess : Guessed) → IsGuessed guess kind → result ≡ is_texts guess }
+{
+    match kind {
+        Kind::Utf8 => true,
+        _ => false,
     }
 }
 
 /// Whether a word is a number of an i64, and one of a u64. One with a sign `+` or with zeros in
 /// front is none, so that no two words become one value.
-fn integers_of(word: &[u8]) -> (bool, bool) {
-    match str::from_utf8(word) {
-        Ok(text) if digits_of(text).is_some() => {
-            (text.parse::<i64>().is_ok(), text.parse::<u64>().is_ok())
-        }
-        _ => (false, false),
+fn integers_of(word: &[u8]) -> (bool, bool)
+    ensures signed { result.0 ≡ is_integer I64 word.now }
+    ensures unsigned { result.1 ≡ is_integer U64 word.now }
+{
+    match plain_number(word) {
+        Some(text) => (text.parse::<i64>().is_ok(), text.parse::<u64>().is_ok()),
+        None => (false, false),
     }
 }
 
 /// The digits of the longest number so far and of a word, if both are decimals.
-fn longest(decimals: Option<Digits>, word: &[u8]) -> Option<Digits> {
-    let before = decimals?;
-    let text = str::from_utf8(word).ok()?;
-    let digits = digits_of(text)?;
+fn longest(decimals: Option<Digits>, word: &[u8]) -> Option<Digits>
+    ensures { (words : List (List ℕ)) → decimals ≡ digits_of words
+        → result ≡ digits_of (words ++ word.now ∷ []) }
+{
+    let Some(before) = decimals else {
+        return None;
+    };
+    let Some(text) = plain_number(word) else {
+        return None;
+    };
+    let (whole, fraction) = parts_of(size_of(text));
     Some(Digits {
-        whole: before.whole.max(digits.whole),
-        places: before.places.max(digits.places),
+        whole: before.whole.max(whole.len()),
+        places: before.places.max(fraction.len()),
     })
 }
 
-/// How many digits a number has, if it is written as decimals are but for zeros behind the point: perhaps a
-/// minus, digits without a zero in front, and perhaps a point and digits. None of a zero with a minus.
-fn digits_of(text: &str) -> Option<Digits> {
-    let size = text.strip_prefix('-').unwrap_or(text);
-    let (whole, fraction) = match size.split_once('.') {
-        Some((whole, fraction)) if !fraction.is_empty() => (whole, fraction),
-        Some(_) => return None,
-        None => (size, ""),
+/// The text of a word that is a number, if it is written as decimals are but for zeros behind the point: perhaps
+/// a minus, digits without a zero in front, and perhaps a point and digits. None of a zero with a minus.
+fn plain_number(word: &[u8]) -> Option<&str>
+    ensures some { IfSome result (λ text. (text.now ≡ word.now) × (is_plain word.now ≡ true)) }
+    ensures none { IfNone result (is_plain word.now ≡ false) }
+{
+    let Ok(text) = str::from_utf8(word) else {
+        return None;
     };
-    let is_plain = match whole.as_bytes() {
-        [b'0'] => true,
-        [first, ..] => b'1' <= *first && *first <= b'9',
-        [] => false,
-    };
-    let is_zero = size.bytes().all(|byte| byte == b'0' || byte == b'.');
-    let are_digits = are_digits(whole) && are_digits(fraction);
-    if !is_plain || !are_digits || (is_zero && size.len() < text.len()) {
+    let size = size_of(text);
+    if !is_size(size) || (is_zero(size) && size.len() < text.len()) {
         return None;
     }
-    Some(Digits {
-        whole: whole.len(),
-        places: fraction.len(),
-    })
+    Some(text)
+}
+
+/// A number without its minus, if it has one.
+fn size_of(text: &str) -> &str
+    ensures { result.now ≡ size_of text.now }
+{
+    match text.strip_prefix('-') {
+        Some(size) => size,
+        None => text,
+    }
+}
+
+/// What stands before the point and behind it.
+fn parts_of(size: &str) -> (&str, &str)
+    ensures whole { result.0.now ≡ whole_of size.now }
+    ensures fraction { result.1.now ≡ fraction_of size.now }
+{
+    match size.split_once('.') {
+        Some(parts) => parts,
+        None => (size, ""),
+    }
+}
+
+/// Whether a text is digits without a zero in front, and perhaps a point and digits.
+fn is_size(size: &str) -> bool
+    ensures { result ≡ is_size size.now }
+{
+    let (whole, fraction) = parts_of(size);
+    is_whole(whole) && are_digits(fraction) && (whole.len() == size.len() || !fraction.is_empty())
+}
+
+/// Whether a text is digits, and begins with a zero only if that is all.
+fn is_whole(text: &str) -> bool
+    ensures { result ≡ is_whole text.now }
+{
+    match text.as_bytes() {
+        [] => false,
+        [byte] => byte.is_ascii_digit(),
+        [first, ..] => b'1' <= *first && *first <= b'9' && are_digits(text),
+    }
+}
+
+/// Whether a number is zero.
+fn is_zero(size: &str) -> bool
+    ensures { result ≡ is_zero size.now }
+{
+    size.as_bytes()
+        .iter()
+        .all(|byte| *byte == b'0' || *byte == b'.')
 }
 
 /// Whether each byte of a text is a decimal digit.
-fn are_digits(text: &str) -> bool {
-    text.bytes().all(|byte| byte.is_ascii_digit())
+fn are_digits(text: &str) -> bool
+    ensures { result ≡ are_digits text.now }
+{
+    text.as_bytes().iter().all(|byte| byte.is_ascii_digit())
 }
 
 /// The decimals that have room for such numbers, if there are any.
-fn decimal_of(decimals: Option<Digits>) -> Option<DecimalType> {
-    let Digits { whole, places } = decimals?;
+fn decimal_of(digits: Option<Digits>) -> Option<DecimalType>
+    ensures { option_map (λ d. decimals d.precision d.scale) result ≡ option_and_then decimals_for digits }
+{
+    let Digits { whole, places } = digits?;
     let count = whole.saturating_add(places);
     let precision = if count <= FEW_DIGITS {
         FEW_DIGITS

@@ -5,7 +5,7 @@ use crate::commands::Reading;
 use crate::guessing::{Guessed, guess_columns, names_in};
 use crate::names::{is_line, stands_in};
 use crate::program_errors::ProgramError;
-use crate::setup::{Numbers, Setup, delimiter_in};
+use crate::setup::{Numbers, Setup, delimiter_in, reading_of};
 use csv_records::Delimiter;
 use record_rows::ColumnType;
 use std::alloc::{AllocError, Global};
@@ -121,7 +121,13 @@ fn with_guessed(
     let Guessed {
         mut columns,
         have_numbers,
-    } = guess_columns(alloc, delimiter, nulls, header, first)?;
+    } = guess_columns(
+        alloc,
+        delimiter,
+        &reading_of(alloc, false, nulls)?,
+        header,
+        first,
+    )?;
     let mut notes = String::new(alloc);
     for (place, guessed) in columns.iter_mut().enumerate() {
         let has_numbers = have_numbers.get(place).copied().unwrap_or(false);

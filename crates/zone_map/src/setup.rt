@@ -1,11 +1,12 @@
 //! How a file is read, in words and in the bytes of its index.
 
-ghost use Rattle.std.specs.Prelude.{◌≡◌, ◌<◌, ◌^◌, ◌++◌, ◌∷◌, Bool, List, ℕ, [], IfOk, IsSomeAnd, IsUtf8, OnOk, Some};
+ghost use Rattle.std.specs.Prelude.{◌≡◌, ◌≢◌, ◌<◌, ◌^◌, ◌++◌, ◌∷◌, Bool, List, ℕ, [], IfNone, IfOk, IfSome, IsSomeAnd};
+ghost use Rattle.std.specs.Prelude.{IsUtf8, OnOk, OnSome, Some};
 ghost use Rattle.std.specs.Prelude.{string_bytes, if◌then◌else◌};
 ghost use Rattle.std.specs.Fmt.{decimal};
-ghost use Rattle.zone_map.specs.Setups.{ColumnValue, FitNumbers, HaveNames, IsSetup, SetupValue, column_line};
-ghost use Rattle.zone_map.specs.Setups.{column_lines, column_values, kind_text, null_lines, numbers_text, setup_lines};
-ghost use Rattle.zone_map.specs.Setups.{setup_text, setup_value};
+ghost use Rattle.zone_map.specs.Setups.{AreLines, ColumnValue, FitNumbers, HaveNames, IsSetup, SaysNumber, SaysNumbers};
+ghost use Rattle.zone_map.specs.Setups.{SetupValue, column_line, column_lines, column_values, kind_text, null_lines};
+ghost use Rattle.zone_map.specs.Setups.{numbers_text, setup_lines, setup_text, setup_value};
 ghost use Rattle.zone_map.specs.Names.{IsName, texts};
 ghost use Rattle.zone_map.specs.declared.setup.Numbers.{Numbers};
 ghost use Rattle.record_rows.specs.declared.schema.ColumnType.{ColumnType};
@@ -67,18 +68,38 @@ impl Setup {
         Ok(text)
     }
 
-    /// What such a text says.
+    /// What such a text says. `None` of any other text.
     pub fn from_text(alloc: Global, bytes: &[u8]) -> Result<Option<Setup>, AllocError>
         // The text of a setup is read back.
-        ensures { IfOk result (λ found. (s : SetupValue) → IsSetup s → IsUtf8 bytes.now → bytes.now ≡ setup_text s
+        ensures back { IfOk result (λ found. (s : SetupValue) → IsSetup s → IsUtf8 bytes.now → bytes.now ≡ setup_text s
             → IsSomeAnd found (λ setup. setup_value setup ≡ s)) }
+        // What is read is a setup, and this is its text.
+        ensures valid { IfOk result (λ found. IfSome found (λ setup. IsSetup (setup_value setup))) }
+        ensures text { IfOk result (λ found. IfSome found (λ setup. bytes.now ≡ setup_text (setup_value setup))) }
     {
         let Ok(text) = str::from_utf8(bytes) else {
             return Ok(None);
         };
         match nulls_of_lines(alloc, text)? {
-            Some((nulls, rest)) => Setup::with_nulls(alloc, nulls, rest),
+            Some((nulls, rest)) => match Setup::with_nulls(alloc, nulls, rest)? {
+                Some(setup) => setup.if_written(alloc, text),
+                None => Ok(None),
+            },
             None => Ok(None),
+        }
+    }
+
+    /// The setup, if this is its text.
+    fn if_written(self, alloc: Global, text: &str) -> Result<Option<Setup>, AllocError>
+        ensures same { IfOk result (λ found. IfSome found (λ setup. setup ≡ self)) }
+        ensures text { IfOk result (λ found. OnSome found (text.now ≡ setup_text (setup_value self))) }
+        ensures other { IfOk result (λ found. IfNone found (text.now ≢ setup_text (setup_value self))) }
+    {
+        let written = self.to_text(alloc)?;
+        if written.as_str() == text {
+            Ok(Some(self))
+        } else {
+            Ok(None)
         }
     }
 
@@ -88,8 +109,10 @@ impl Setup {
         nulls: Vec<String>,
         lines: &str,
     ) -> Result<Option<Setup>, AllocError>
-        ensures { IfOk result (λ found. (s : SetupValue) → IsSetup s → texts nulls.items ≡ s.nulls
+        ensures back { IfOk result (λ found. (s : SetupValue) → IsSetup s → texts nulls.items ≡ s.nulls
             → lines.now ≡ setup_lines s → IsSomeAnd found (λ setup. setup_value setup ≡ s)) }
+        ensures valid { IfOk result (λ found. IfSome found (λ setup. AreLines (texts nulls.items)
+            → IsSetup (setup_value setup))) }
     {
         match parts_of(lines) {
             Some((numbers, lines)) => match columns_of_lines(alloc, lines)? {
@@ -115,18 +138,9 @@ impl Setup {
         }
         Ok(Schema {
             delimiter,
-            reading: self.reading(alloc)?,
+            reading: reading_of(alloc, self.numbers.is_lenient, &self.nulls)?,
             columns,
         })
-    }
-
-    /// How fields are read.
-    fn reading(&self, alloc: Global) -> Result<FieldReading, AllocError> {
-        let mut nulls = Vec::new(alloc);
-        for null in &self.nulls {
-            nulls.push(Vec::from_slice(alloc, null.as_bytes())?)?;
-        }
-        Ok(FieldReading::new(self.numbers.is_lenient, nulls))
     }
 
     /// The columns, as filters name them.
@@ -139,6 +153,22 @@ impl Setup {
         }
         Ok(columns)
     }
+}
+
+/// How fields are read, where these words are nulls.
+pub fn reading_of(
+    alloc: Global,
+    is_lenient: bool,
+    words: &[String],
+) -> Result<FieldReading, AllocError>
+    ensures lenient { IfOk result (λ reading. reading.is_lenient ≡ is_lenient) }
+    ensures nulls { IfOk result (λ reading. reading.nulls ≡ texts words.now) }
+{
+    let mut nulls = Vec::new(alloc);
+    for word in words {
+        nulls.push(Vec::from_slice(alloc, word.as_bytes())?)?;
+    }
+    Ok(FieldReading::new(is_lenient, nulls))
 }
 
 /// Appends a line for each word that is a null.
@@ -178,8 +208,9 @@ fn push_column(text: &mut String, named: &NamedColumn) -> Result<(), AllocError>
 
 /// The words that are nulls by the first lines of a text, and what follows those.
 fn nulls_of_lines(alloc: Global, text: &str) -> Result<Option<(Vec<String>, &str)>, AllocError>
-    ensures { IfOk result (λ found. (s : SetupValue) → IsSetup s → text.now ≡ setup_text s
+    ensures back { IfOk result (λ found. (s : SetupValue) → IsSetup s → text.now ≡ setup_text s
         → IsSomeAnd found (λ parts. (texts parts.0.items ≡ s.nulls) × (parts.1.now ≡ setup_lines s))) }
+    ensures lines { IfOk result (λ found. IfSome found (λ parts. AreLines (texts parts.0.items))) }
 {
     let mut nulls = Vec::new(alloc);
     let mut rest = text;
@@ -195,8 +226,11 @@ fn nulls_of_lines(alloc: Global, text: &str) -> Result<Option<(Vec<String>, &str
 
 /// The numbers of a setup's text, and the lines of its columns.
 fn parts_of(text: &str) -> Option<(Numbers, &str)>
-    ensures { (s : SetupValue) → IsSetup s → text.now ≡ setup_lines s
+    ensures back { (s : SetupValue) → IsSetup s → text.now ≡ setup_lines s
         → IsSomeAnd result (λ parts. (parts.0 ≡ s.numbers) × (parts.1.now ≡ column_lines s.columns)) }
+    ensures says { IfSome result (λ parts. (line : List ℕ) × SaysNumbers line parts.0
+        × (text.now ≡ line ++ 10 ∷ parts.1.now)) }
+    ensures fit { IfSome result (λ parts. FitNumbers parts.0) }
 {
     let (line, columns) = text.split_once('\n')?;
     let numbers = numbers_of(line)?;
@@ -205,7 +239,9 @@ fn parts_of(text: &str) -> Option<(Numbers, &str)>
 
 /// The numbers of a line, if they are so many.
 fn numbers_of(line: &str) -> Option<Numbers>
-    ensures { (numbers : Numbers) → FitNumbers numbers → line.now ≡ numbers_text numbers → result ≡ Some numbers }
+    ensures back { (numbers : Numbers) → FitNumbers numbers → line.now ≡ numbers_text numbers → result ≡ Some numbers }
+    ensures says { IfSome result (SaysNumbers line.now) }
+    ensures fit { IfSome result FitNumbers }
 {
     let (delimiter, after_delimiter) = number_before(line)?;
     let (lenient, after_lenient) = number_before(after_delimiter)?;
@@ -227,8 +263,9 @@ fn numbers_of(line: &str) -> Option<Numbers>
 
 /// The number before the first blank of a text, and what follows that.
 fn number_before(text: &str) -> Option<(u64, &str)>
-    ensures { (n : ℕ) (rest : List ℕ) → n < 2 ^ 64 → text.now ≡ decimal n ++ 32 ∷ rest
+    ensures back { (n : ℕ) (rest : List ℕ) → n < 2 ^ 64 → text.now ≡ decimal n ++ 32 ∷ rest
         → IsSomeAnd result (λ cut. (cut.0 ≡ n) × (cut.1.now ≡ rest)) }
+    ensures says { IfSome result (λ cut. (word : List ℕ) × SaysNumber word cut.0 × (text.now ≡ word ++ 32 ∷ cut.1.now)) }
 {
     let (word, rest) = text.split_once(' ')?;
     match word.parse::<u64>() {
@@ -239,7 +276,8 @@ fn number_before(text: &str) -> Option<(u64, &str)>
 
 /// The flag that 0 and 1 are.
 fn flag_of(number: u64) -> Option<bool>
-    ensures { (flag : Bool) → number ≡ (if flag then 1 else 0) → result ≡ Some flag }
+    ensures back { (flag : Bool) → number ≡ (if flag then 1 else 0) → result ≡ Some flag }
+    ensures says { IfSome result (λ flag. number ≡ (if flag then 1 else 0)) }
 {
     match number {
         0 => Some(false),
@@ -250,8 +288,9 @@ fn flag_of(number: u64) -> Option<bool>
 
 /// The columns of lines, if each is a kind and a name.
 fn columns_of_lines(alloc: Global, lines: &str) -> Result<Option<Vec<NamedColumn>>, AllocError>
-    ensures { IfOk result (λ found. (columns : List ColumnValue) → HaveNames columns
+    ensures back { IfOk result (λ found. (columns : List ColumnValue) → HaveNames columns
         → (lines.now ≡ column_lines columns) → IsSomeAnd found (λ named. column_values named.items ≡ columns)) }
+    ensures names { IfOk result (λ found. IfSome found (λ named. HaveNames (column_values named.items))) }
 {
     let mut columns = Vec::new(alloc);
     let mut rest = lines;
@@ -271,8 +310,9 @@ fn columns_of_lines(alloc: Global, lines: &str) -> Result<Option<Vec<NamedColumn
 
 /// The column of a line, and its name.
 fn column_of_line(line: &str) -> Option<(ColumnType, &str)>
-    ensures { (column : ColumnValue) → IsName column.name → line.now ≡ kind_text column.column ++ 32 ∷ column.name
+    ensures back { (column : ColumnValue) → IsName column.name → line.now ≡ kind_text column.column ++ 32 ∷ column.name
         → IsSomeAnd result (λ found. (found.0 ≡ column.column) × (found.1.now ≡ column.name)) }
+    ensures name { IfSome result (λ found. IsName found.1.now) }
 {
     let (word, name) = line.split_once(' ')?;
     let column = column_of(word)?;

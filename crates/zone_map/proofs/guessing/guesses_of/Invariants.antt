@@ -1,6 +1,10 @@
--- What is left gets shorter.
+-- The guesses of the records before what is left, which gets shorter.
 use Rattle.std.proofs.Common.{length}
+use Rattle.zone_map.proofs.Columns.{Guessed}
 use Rattle.zone_map.proofs.guessing.guesses_of.Given as goal
+
+abbrev pub invariant-loop-rest : goal.invariant-loop-rest
+invariant-loop-rest l = Guessed l.delimiter.byte l.reading l.records l.rest l.guesses.items
 
 abbrev pub decreases-loop-rest : goal.decreases-loop-rest
 decreases-loop-rest l = length l.rest

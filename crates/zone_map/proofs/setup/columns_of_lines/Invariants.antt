@@ -1,4 +1,4 @@
--- What is left gets shorter; of the lines of columns, the first ones are those so far.
+-- What is left gets shorter; of the lines of columns, the first ones are those so far. Each column so far has a name.
 use Rattle.std.proofs.Common.{◌≡◌, ◌++◌, List, length}
 use denote.Shadow.{shadow}
 use denote.Text.{Utf8}
@@ -10,6 +10,7 @@ invariant-loop-rest l =
     ((columns : List ColumnValue) → HaveNames columns → l.lines ≡ column_lines columns
     → (others : List ColumnValue) × HaveNames others × (l.rest ≡ column_lines others) × (columns ≡ column_values l.columns.items ++ others))
     × shadow (Utf8 l.rest)
+    × HaveNames (column_values l.columns.items)
 
 abbrev pub decreases-loop-rest : goal.decreases-loop-rest
 decreases-loop-rest l = length l.rest
