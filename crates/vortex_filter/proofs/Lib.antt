@@ -11,6 +11,7 @@ pub mod LiteralTypes
 pub mod LogicalValueLaws
 pub mod Loops
 pub mod MakeSteps
+pub mod MemorySteps
 pub mod PositionLaws
 pub mod PrefixSteps
 pub mod StandingLaws
