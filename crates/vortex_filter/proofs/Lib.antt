@@ -2,6 +2,7 @@ pub mod Cells
 pub mod CheckLaws
 pub mod CheckSteps
 pub mod CoerceLaws
+pub mod CoerceMemorySteps
 pub mod CoerceSteps
 pub mod ExtensionSteps
 pub mod FitProofs
