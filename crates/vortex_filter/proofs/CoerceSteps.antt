@@ -46,7 +46,7 @@ use Rattle.vortex_filter.specs.Extensions.{reinterprets}
 use Rattle.vortex_filter.specs.Formula.{Formula, constant, comparison, null_test, membership, range, prefix_test, both, either, negation, formula, truth}
 use Rattle.vortex_filter.specs.FilterLiterals.{AreValid, exactly_of, literal_tests, literals_of}
 use Rattle.vortex_filter.specs.Makes.{Makes, OfParts}
-use Rattle.vortex_filter.specs.Positions.{PositionTree, exactly, just_above, lacking, cells_of, compared_scalars, comparison_of, member_among, member_of, position_tree, prefix_of, range_of, scalars_of}
+use Rattle.vortex_filter.specs.Positions.{PositionTree, exactly, just_above, lacking, cells_of, compared_scalars, comparison_of, member_among, member_of, position_tree, prefix_of, range_of, scalars_at, scalars_of}
 use Rattle.vortex_filter.specs.Rows.{IsRowOf, content_truth}
 use Rattle.vortex_cells.specs.Variants.{has_variant}
 use Rattle.vortex_filter.proofs.CheckLaws.{fit_both, fit_one, not_both, refuses_behind, refuses_front, refuses_one, strings_test}
@@ -289,25 +289,25 @@ pub ruleset positions = (lacking_stands, has_literal)
 
 -- ---- tests
 
--- a filter with this formula and these literals, or out of memory
-abbrev IsMade : Formula → List Scalar → Result Filter FilterError → Type 0
-IsMade f ls r = IfOk r (λ g. formula g ≡ f) × IfOk r (λ g. literals_of g ≡ ls) × IfErr r (λ e. e ≡ OutOfMemory)
+-- a filter with this formula and these literals, or out of memory where some is asked for
+abbrev IsMade : Formula → List Scalar → Type 0 → Result Filter FilterError → Type 0
+IsMade f ls asks r = IfOk r (λ g. formula g ≡ f) × IfOk r (λ g. literals_of g ≡ ls) × IfErr r (λ e. (e ≡ OutOfMemory) × asks)
 
 module _ (t : TypeTree) (k : ℕ) where
-  pub comparison_stands : (op : CompareOperator) (x : Scalar) (p : Position) (r : Result Filter FilterError) → StandsAt t x p → IsMade (comparison_of k op (position_tree p)) (compared_scalars op p) r
+  pub comparison_stands : (op : CompareOperator) (x : Scalar) (p : Position) (r : Result Filter FilterError) → StandsAt t x p → IsMade (comparison_of k op (position_tree p)) (compared_scalars op p) (compared_scalars op p ≡ []) r
       → CoercesTest t (comparing (x ∷ [])) (comparison_of k op (position_in t (cell_of x))) (x ∷ []) k r
   comparison_stands op x p (Ok g) h m = (m.0 ∙ ap (comparison_of k op) h.0, (h.1, tt), λ v. valid_same (literals_of g) (compared_scalars op p) m.1 (valid_compared op p (h.2 v.0)))
-  comparison_stands op x p (Err e) h m = inl m.2
+  comparison_stands op x p (Err e) h m = inl m.2.0
 
   pub comparison_stops : (op : CompareOperator) (x : Scalar) (e : FilterError) → RefusesLiterals k (IsCoercible t x) e → CoercesTest t (comparing (x ∷ [])) (comparison_of k op (position_in t (cell_of x))) (x ∷ []) k (Err e)
   comparison_stops op x e (inl o) = inl o
   comparison_stops op x e (inr p) = inr (p.0, λ s. p.1 s.0)
 
   module _ (x y : Scalar) where
-    pub range_stands : (p q : Position) (r : Result Filter FilterError) → StandsAt t x p → StandsAt t y q → IsMade (range_of k (position_tree p) (position_tree q)) (compared_scalars Gte p ++ compared_scalars Lte q) r
+    pub range_stands : (p q : Position) (r : Result Filter FilterError) → StandsAt t x p → StandsAt t y q → IsMade (range_of k (position_tree p) (position_tree q)) (compared_scalars Gte p ++ compared_scalars Lte q) ((scalars_at p ≡ []) ⊎ (scalars_at q ≡ [])) r
         → CoercesTest t (comparing (x ∷ y ∷ [])) (range_of k (position_in t (cell_of x)) (position_in t (cell_of y))) (x ∷ y ∷ []) k r
     range_stands p q (Ok g) h i m = (m.0 ∙ ap₂ (range_of k) h.0 i.0, (h.1, (i.1, tt)), λ v. valid_with (literals_of g) (compared_scalars Gte p) (compared_scalars Lte q) m.1 (valid_compared Gte p (h.2 v.0)) (valid_compared Lte q (i.2 v.1.0)))
-    range_stands p q (Err e) h i m = inl m.2
+    range_stands p q (Err e) h i m = inl m.2.0
 
     pub lower_stops : (e : FilterError) → RefusesLiterals k (IsCoercible t x) e → CoercesTest t (comparing (x ∷ y ∷ [])) (range_of k (position_in t (cell_of x)) (position_in t (cell_of y))) (x ∷ y ∷ []) k (Err e)
     lower_stops e (inl o) = inl o
@@ -326,10 +326,10 @@ module _ (t : TypeTree) (k : ℕ) where
       not_empty n = grind (arith, nat_tests)
 
   pub some_asked : (xs ks : List Scalar) (r : Result Filter FilterError) → (length xs == 0) ≡ false → (map cell_of ks ≡ cells_of (map (position_in t) (map cell_of xs))) × AllByRecursion (IsCoercible t) xs × (AreValid xs → AreValid ks)
-      → IsMade (member_of k (map cell_of ks)) ks r → CoercesTest t (comparing xs) (member_among k (map (position_in t) (map cell_of xs))) xs k r
+      → IsMade (member_of k (map cell_of ks)) ks (ks ≡ []) r → CoercesTest t (comparing xs) (member_among k (map (position_in t) (map cell_of xs))) xs k r
   some_asked [] ks r e h m = absurd cc
   some_asked (x ∷ xs) ks (Ok g) e h m = (m.0 ∙ ap (member_of k) h.0, h.1, λ v. valid_same (literals_of g) ks m.1 (h.2 v))
-  some_asked (x ∷ xs) ks (Err d) e h m = inl m.2
+  some_asked (x ∷ xs) ks (Err d) e h m = inl m.2.0
 
 -- ---- prefixes
 

@@ -2,6 +2,7 @@ pub mod Cells
 pub mod CheckLaws
 pub mod CheckSteps
 pub mod CoerceLaws
+pub mod CoerceMemorySteps
 pub mod CoerceSteps
 pub mod ExtensionSteps
 pub mod FitProofs
@@ -11,6 +12,7 @@ pub mod LiteralTypes
 pub mod LogicalValueLaws
 pub mod Loops
 pub mod MakeSteps
+pub mod MemorySteps
 pub mod PositionLaws
 pub mod PrefixSteps
 pub mod StandingLaws

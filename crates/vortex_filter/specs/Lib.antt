@@ -1,6 +1,7 @@
 pub mod Asked
 pub mod CheckSteps
 pub mod Checking
+pub mod CoerceMemory
 pub mod Coerces
 pub mod Coercing
 pub mod Examples

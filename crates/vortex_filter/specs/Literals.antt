@@ -2,7 +2,7 @@
 use Rattle.std.specs.Prelude.{ℕ, ℤ, pos, ◌+ℤ◌, ◌&&◌, Bool, List, [], Option, Some, None, option_and_then, option_map, if◌then◌else◌}
 use Rattle.std.specs.Ordering.{int_cmp}
 use Rattle.std.specs.declared.cmp.Ordering.TheVariants.{Less, Greater}
-use Rattle.vortex_dtype.specs.TypeTree.{TypeTree, as_nullable, bool_type, integer_type, utf8_type, binary_type, extension_type}
+use Rattle.vortex_dtype.specs.TypeTree.{IsFlat, TypeTree, as_nullable, bool_type, integer_type, utf8_type, binary_type, extension_type}
 use Rattle.vortex_dtype.specs.declared.nullability.Nullability.TheVariants.{NonNullable}
 use Rattle.vortex_dtype.specs.declared.ptype.PType.{PType}
 use Rattle.vortex_pvalue.specs.Numbers.{in_range}
@@ -152,3 +152,10 @@ position_of t (bytes_literal bs) = bytes_in t bs
 abbrev pub scalars_in : Option Position → List Scalar
 scalars_in None = []
 scalars_in (Some p) = scalars_of p
+
+-- the scalar that a literal stands at or just above takes memory: there is one, and its type is not flat
+abbrev pub AsksMemory : Option PositionTree → Type 0
+AsksMemory None = ⊥
+AsksMemory (Some (exactly x)) = ¬ (IsFlat x.typed)
+AsksMemory (Some (just_above x)) = ¬ (IsFlat x.typed)
+AsksMemory (Some (lacking o)) = ⊥

@@ -1,6 +1,8 @@
 //! A filter with its literals cast to the types of the columns.
 
 ghost use Rattle.std.specs.Prelude.{◌≡◌, ◌≢◌, ◌⊎◌, ◌↔◌, ◌∷◌, [], false, IfErr, IfOk, IsTrue, List, OnOk, map};
+ghost use Rattle.vortex_filter.specs.CoerceMemory.{AsksAmong, AsksIn, IsCopied, MayRunOut, RunsOutOnly, list_task};
+ghost use Rattle.vortex_filter.specs.CoerceMemory.{tasks_of, test_task};
 ghost use Rattle.vortex_filter.specs.Coerces.{Coerces, CoercesLiteral, CoercesLiterals, CoercesTest, GivesOrdered};
 ghost use Rattle.vortex_filter.specs.Coerces.{integer_in, lacking_of, lacking_order, number_in, number_lacking};
 ghost use Rattle.vortex_filter.specs.Coercing.{IsCoercible, coerced, coerced_cell, lacks, position_in};
@@ -43,8 +45,11 @@ impl Filter {
     /// whose column is not there or has values without an order. A literal of another type than the
     /// column's that is not valid for its own counts as one that cannot be cast, and so does one whose
     /// cast would take what stores the value of an extension for the value, or the other way round: 10
-    /// is not the float that 10 stores. Of valid literals it makes valid ones. `OutOfMemory` may come in place of each answer, and is the only refusal of a
-    /// filter that passes `check`.
+    /// is not the float that 10 stores. Of valid literals it makes valid ones.
+    ///
+    /// `OutOfMemory` comes only where memory is asked for before a test is refused: for the copy or the
+    /// cast of a literal, for a list of literals, or for the parts of a connective. It is the only
+    /// refusal of a filter that passes `check`.
     ///
     /// It borrows the filter: casts are new scalars anyway, and so nothing is lost if it is refused.
     pub fn coerce(&self, alloc: Global, columns: &[DType]) -> Result<Filter, FilterError>
@@ -65,16 +70,19 @@ impl Filter {
             (AllFit IsCoercible (map type_of columns.now) (literal_tests self.now)) }
         ensures refused { IfErr result (λ e. (e ≡ OutOfMemory)
             ⊎ RefusesFirst IsCoercible (map type_of columns.now) (literal_tests self.now) e) }
+        ensures memory { IfErr result (λ e. e ≡ OutOfMemory
+            → MayRunOut (map type_of columns.now) (tasks_of self.now)) }
     {
         nullable_is_the_same();
         coerce_filter(alloc, self, columns)
     }
 }
 
-#[tactic(auto, using(crate::proofs::CoerceSteps::shown))]
+#[tactic(auto, using(crate::proofs::CoerceSteps::shown, crate::proofs::CoerceMemorySteps::tasks))]
 fn coerce_filter(alloc: Global, filter: &Filter, columns: &[DType]) -> Result<Filter, FilterError>
-    ensures { Coerces (map type_of columns.now) (formula filter.now)
+    ensures made { Coerces (map type_of columns.now) (formula filter.now)
         (literal_tests filter.now) (literals_of filter.now) result }
+    ensures asked { RunsOutOnly (map type_of columns.now) (tasks_of filter.now) result }
 {
     match filter {
         Filter::Constant(truth) => Ok(Filter::Constant(*truth)),
@@ -110,10 +118,11 @@ fn coerce_filter(alloc: Global, filter: &Filter, columns: &[DType]) -> Result<Fi
 // Each is a call of its own, so that what it needs on the stack is not taken again at each level of a
 // filter.
 
-#[tactic(auto, using(crate::proofs::CoerceSteps::columns))]
+#[tactic(auto, using(crate::proofs::CoerceSteps::columns, crate::proofs::CoerceMemorySteps::refusals))]
 #[inline(never)]
 fn coerce_null_test(column: usize, columns: &[DType]) -> Result<Filter, FilterError>
-    ensures { Coerces (map type_of columns.now) (null_test column) (asks column nothing) [] result }
+    ensures made { Coerces (map type_of columns.now) (null_test column) (asks column nothing) [] result }
+    ensures asked { RunsOutOnly (map type_of columns.now) (test_task column nothing ∷ []) result }
 {
     match type_at(column, columns) {
         Some(_) => Ok(Filter::IsNull { column }),
@@ -121,7 +130,7 @@ fn coerce_null_test(column: usize, columns: &[DType]) -> Result<Filter, FilterEr
     }
 }
 
-#[tactic(auto, using(crate::proofs::CoerceSteps::columns))]
+#[tactic(auto, using(crate::proofs::CoerceSteps::columns, crate::proofs::CoerceMemorySteps::refusals))]
 #[inline(never)]
 fn coerce_comparison(
     alloc: Global,
@@ -130,9 +139,11 @@ fn coerce_comparison(
     literal: &Scalar,
     columns: &[DType],
 ) -> Result<Filter, FilterError>
-    ensures { Coerces (map type_of columns.now)
+    ensures made { Coerces (map type_of columns.now)
         (comparison column operator (cell_of literal.now))
         (asks column (comparing (literal.now ∷ []))) (literal.now ∷ []) result }
+    ensures asked { RunsOutOnly (map type_of columns.now)
+        (test_task column (comparing (literal.now ∷ [])) ∷ []) result }
 {
     match ordered_type(column, columns) {
         Ok(dtype) => comparison_in(alloc, dtype, column, operator, literal),
@@ -140,7 +151,7 @@ fn coerce_comparison(
     }
 }
 
-#[tactic(auto, using(crate::proofs::CoerceSteps::columns))]
+#[tactic(auto, using(crate::proofs::CoerceSteps::columns, crate::proofs::CoerceMemorySteps::refusals))]
 #[inline(never)]
 fn coerce_membership(
     alloc: Global,
@@ -148,9 +159,10 @@ fn coerce_membership(
     literals: &[Scalar],
     columns: &[DType],
 ) -> Result<Filter, FilterError>
-    ensures { Coerces (map type_of columns.now)
+    ensures made { Coerces (map type_of columns.now)
         (membership column (map cell_of literals.now))
         (asks column (comparing literals.now)) literals.now result }
+    ensures asked { RunsOutOnly (map type_of columns.now) (list_task column literals.now ∷ []) result }
 {
     match ordered_type(column, columns) {
         Ok(dtype) => membership_in(alloc, dtype, column, literals),
@@ -158,7 +170,7 @@ fn coerce_membership(
     }
 }
 
-#[tactic(auto, using(crate::proofs::CoerceSteps::columns))]
+#[tactic(auto, using(crate::proofs::CoerceSteps::columns, crate::proofs::CoerceMemorySteps::refusals))]
 #[inline(never)]
 fn coerce_range(
     alloc: Global,
@@ -167,9 +179,11 @@ fn coerce_range(
     upper: &Scalar,
     columns: &[DType],
 ) -> Result<Filter, FilterError>
-    ensures { Coerces (map type_of columns.now)
+    ensures made { Coerces (map type_of columns.now)
         (range column (cell_of lower.now) (cell_of upper.now))
         (asks column (comparing (lower.now ∷ upper.now ∷ []))) (lower.now ∷ upper.now ∷ []) result }
+    ensures asked { RunsOutOnly (map type_of columns.now)
+        (test_task column (comparing (lower.now ∷ upper.now ∷ [])) ∷ []) result }
 {
     match ordered_type(column, columns) {
         Ok(dtype) => range_in(alloc, dtype, column, lower, upper),
@@ -177,7 +191,7 @@ fn coerce_range(
     }
 }
 
-#[tactic(auto, using(crate::proofs::CoerceSteps::columns))]
+#[tactic(auto, using(crate::proofs::CoerceSteps::columns, crate::proofs::CoerceMemorySteps::refusals))]
 #[inline(never)]
 fn coerce_prefix(
     alloc: Global,
@@ -185,9 +199,11 @@ fn coerce_prefix(
     prefix: &Scalar,
     columns: &[DType],
 ) -> Result<Filter, FilterError>
-    ensures { Coerces (map type_of columns.now)
+    ensures made { Coerces (map type_of columns.now)
         (prefix_test column (cell_of prefix.now))
         (asks column (beginning prefix.now)) (prefix.now ∷ []) result }
+    ensures asked { RunsOutOnly (map type_of columns.now)
+        (test_task column (beginning prefix.now) ∷ []) result }
 {
     match ordered_type(column, columns) {
         Ok(dtype) => prefix_in(alloc, dtype, column, prefix),
@@ -218,9 +234,11 @@ fn comparison_in(
     operator: CompareOperator,
     literal: &Scalar,
 ) -> Result<Filter, FilterError>
-    ensures { CoercesTest (type_of dtype.now) (comparing (literal.now ∷ []))
+    ensures made { CoercesTest (type_of dtype.now) (comparing (literal.now ∷ []))
         (comparison_of column operator (position_in (type_of dtype.now) (cell_of literal.now)))
         (literal.now ∷ []) column result }
+    ensures asked { IfErr result (λ e. e ≡ OutOfMemory
+        → AsksAmong (type_of dtype.now) (literal.now ∷ [])) }
 {
     match position_in(alloc, dtype, column, literal) {
         Ok(position) => comparison_of(alloc, column, operator, position),
@@ -234,9 +252,10 @@ fn membership_in(
     column: usize,
     literals: &[Scalar],
 ) -> Result<Filter, FilterError>
-    ensures { CoercesTest (type_of dtype.now) (comparing literals.now)
+    ensures made { CoercesTest (type_of dtype.now) (comparing literals.now)
         (member_among column (map (position_in (type_of dtype.now)) (map cell_of literals.now)))
         literals.now column result }
+    ensures asked { IfErr result (λ e. e ≡ OutOfMemory → literals.now ≢ []) }
 {
     if literals.is_empty() {
         return Ok(Filter::In {
@@ -257,11 +276,13 @@ fn range_in(
     lower: &Scalar,
     upper: &Scalar,
 ) -> Result<Filter, FilterError>
-    ensures { CoercesTest (type_of dtype.now)
+    ensures made { CoercesTest (type_of dtype.now)
         (comparing (lower.now ∷ upper.now ∷ []))
         (range_of column (position_in (type_of dtype.now) (cell_of lower.now))
         (position_in (type_of dtype.now) (cell_of upper.now)))
         (lower.now ∷ upper.now ∷ []) column result }
+    ensures asked { IfErr result (λ e. e ≡ OutOfMemory
+        → AsksAmong (type_of dtype.now) (lower.now ∷ upper.now ∷ [])) }
 {
     match position_in(alloc, dtype, column, lower) {
         Ok(from) => match position_in(alloc, dtype, column, upper) {
@@ -275,16 +296,18 @@ fn range_in(
     }
 }
 
-#[tactic(auto, using(crate::proofs::CoerceSteps::prefixes))]
+#[tactic(auto, using(crate::proofs::CoerceSteps::prefixes, crate::proofs::CoerceMemorySteps::refusals))]
 fn prefix_in(
     alloc: Global,
     dtype: &DType,
     column: usize,
     prefix: &Scalar,
 ) -> Result<Filter, FilterError>
-    ensures { CoercesTest (type_of dtype.now) (beginning prefix.now)
+    ensures made { CoercesTest (type_of dtype.now) (beginning prefix.now)
         (prefix_test column (coerced_cell (type_of dtype.now) (cell_of prefix.now)))
         (prefix.now ∷ []) column result }
+    ensures asked { IfErr result (λ e. e ≡ OutOfMemory
+        → AsksIn (type_of dtype.now) (beginning prefix.now)) }
 {
     if holds_strings(dtype) {
         return match position_in(alloc, dtype, column, prefix) {
@@ -319,14 +342,15 @@ fn kept_literals(
 
 /// Where a literal stands among the values of the type: at a copy if it is of the type up to
 /// nullability, at a number that the type lacks, or else at its cast.
-#[tactic(auto, using(crate::proofs::CoerceSteps::positions))]
+#[tactic(auto, using(crate::proofs::CoerceSteps::positions, crate::proofs::CoerceMemorySteps::refusals))]
 fn position_in(
     alloc: Global,
     dtype: &DType,
     column: usize,
     literal: &Scalar,
 ) -> Result<Position, FilterError>
-    ensures { CoercesLiteral (type_of dtype.now) literal.now column result }
+    ensures made { CoercesLiteral (type_of dtype.now) literal.now column result }
+    ensures asked { IfErr result (λ e. e ≡ OutOfMemory → IsCopied (type_of dtype.now) literal.now) }
 {
     if is_of_type(literal, dtype) {
         return match copy_scalar(alloc, literal) {
@@ -345,6 +369,7 @@ fn position_in(
 
 /// The cast of a valid literal to the type, made nullable, unless it takes a storage for a value or a
 /// value for its storage.
+#[tactic(auto, using(crate::proofs::CoerceMemorySteps::refusals))]
 fn cast_or_refuse(
     alloc: Global,
     dtype: &DType,
@@ -354,7 +379,8 @@ fn cast_or_refuse(
     requires valid { IsValid literal.now }
     requires other { same_type (type_of dtype.now) (scalar_type literal.now) ≡ false }
     requires has { lacks (type_of dtype.now) (cell_of literal.now) ≡ false }
-    ensures { CoercesLiteral (type_of dtype.now) literal.now column result }
+    ensures made { CoercesLiteral (type_of dtype.now) literal.now column result }
+    ensures asked { IfErr result (λ e. e ≡ OutOfMemory → IsCopied (type_of dtype.now) literal.now) }
 {
     if reinterprets(literal, dtype) {
         return Err(FilterError::TypesDiffer { test: 0, column });
@@ -363,7 +389,7 @@ fn cast_or_refuse(
 }
 
 /// The cast of a valid literal to the type, made nullable.
-#[tactic(auto, using(crate::proofs::CoerceSteps::casts))]
+#[tactic(auto, using(crate::proofs::CoerceSteps::casts, crate::proofs::CoerceMemorySteps::refusals))]
 fn cast_valid(
     alloc: Global,
     dtype: &DType,
@@ -374,7 +400,8 @@ fn cast_valid(
     requires other { same_type (type_of dtype.now) (scalar_type literal.now) ≡ false }
     requires has { lacks (type_of dtype.now) (cell_of literal.now) ≡ false }
     requires keeps { reinterprets (scalar_type literal.now) (type_of dtype.now) (scalar_content literal.now) ≡ false }
-    ensures { CoercesLiteral (type_of dtype.now) literal.now column result }
+    ensures made { CoercesLiteral (type_of dtype.now) literal.now column result }
+    ensures asked { IfErr result (λ e. e ≡ OutOfMemory → IsCopied (type_of dtype.now) literal.now) }
 {
     let target = match nullable(alloc, dtype) {
         Ok(target) => target,

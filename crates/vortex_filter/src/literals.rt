@@ -4,9 +4,10 @@ ghost use Rattle.std.specs.Prelude.{◌≡◌, ◌<◌, ◌^◌, IfErr, IfOk, Ma
 ghost use Rattle.logical_scalars.specs.Stored.{IsOfLogicalType};
 ghost use Rattle.logical_types.specs.Shapes.{IsAmong, shape_of};
 ghost use Rattle.logical_types.specs.Words.{IsStorageOf};
+ghost use Rattle.vortex_dtype.specs.TypeTree.{IsFlat};
 ghost use Rattle.vortex_filter.specs.FilterLiterals.{AreValid};
 ghost use Rattle.logical_types.specs.declared.logical.LogicalType.TheVariants as LogicalTypes;
-ghost use Rattle.vortex_filter.specs.Literals.{bytes_in, decimal_at, gap_position, integer_at, integer_in};
+ghost use Rattle.vortex_filter.specs.Literals.{AsksMemory, bytes_in, decimal_at, gap_position, integer_at, integer_in};
 ghost use Rattle.vortex_filter.specs.Literals.{integer_position, literal_tree, logical_cell, null_cell};
 ghost use Rattle.vortex_filter.specs.Literals.{number_in, number_of_shape, number_of_type, position_of, scalars_in};
 ghost use Rattle.vortex_filter.specs.Literals.{text_cell, text_in, text_of_shape, text_of_type, truth_in};
@@ -59,12 +60,14 @@ impl Literal<'_> {
     /// and at most 38 digits, and one in a column of floats is not so great that the nearest is
     /// infinity.
     ///
-    /// `OutOfMemory` is its only refusal.
+    /// `OutOfMemory` is its only refusal. It never comes for a truth value or for a number in a column of
+    /// integers, and never in place of `None`.
     pub fn position(self, alloc: Global, dtype: &DType) -> Result<Option<Position>, FilterError>
         ensures value { IfOk result (λ found. option_map position_tree found
             ≡ position_of (type_of dtype.now) (literal_tree self.entry)) }
         ensures valid { IfOk result (λ found. AreValid (scalars_in found)) }
-        ensures refused { IfErr result (λ e. e ≡ OutOfMemory) }
+        ensures refused { IfErr result (λ e. (e ≡ OutOfMemory)
+            × AsksMemory (position_of (type_of dtype.now) (literal_tree self.entry))) }
     {
         match self {
             Literal::Null => null_in(alloc, dtype),
@@ -81,7 +84,8 @@ fn null_in(alloc: Global, dtype: &DType) -> Result<Option<Position>, FilterError
     ensures value { IfOk result (λ found. option_map position_tree found
         ≡ Some (exactly (null_cell (type_of dtype.now)))) }
     ensures valid { IfOk result (λ found. AreValid (scalars_in found)) }
-    ensures refused { IfErr result (λ e. e ≡ OutOfMemory) }
+    ensures refused { IfErr result (λ e. (e ≡ OutOfMemory)
+        × AsksMemory (Some (exactly (null_cell (type_of dtype.now))))) }
 {
     match nullable(alloc, dtype) {
         Ok(dtype) => Ok(Some(Position::Exactly(Scalar::null(dtype)))),
@@ -93,7 +97,7 @@ fn null_in(alloc: Global, dtype: &DType) -> Result<Option<Position>, FilterError
 pub(crate) fn nullable(alloc: Global, dtype: &DType) -> Result<DType, FilterError>
     ensures { MatchResult result
         (λ made. type_of made ≡ as_nullable (type_of dtype.now))
-        (λ e. e ≡ OutOfMemory) }
+        (λ e. (e ≡ OutOfMemory) × ¬ (IsFlat (type_of dtype.now))) }
 {
     match dtype.clone(alloc) {
         Ok(copy) => Ok(copy.as_nullable()),
@@ -122,7 +126,8 @@ fn number_in(alloc: Global, dtype: &DType, word: &str) -> Result<Option<Position
     ensures value { IfOk result (λ found.
         option_map position_tree found ≡ number_in (type_of dtype.now) word.now) }
     ensures valid { IfOk result (λ found. AreValid (scalars_in found)) }
-    ensures refused { IfErr result (λ e. e ≡ OutOfMemory) }
+    ensures refused { IfErr result (λ e. (e ≡ OutOfMemory)
+        × AsksMemory (number_in (type_of dtype.now) word.now)) }
 {
     match dtype {
         DType::Primitive(ptype, _) => Ok(integer_in(*ptype, word)),
@@ -210,7 +215,8 @@ fn number_of_type(alloc: Global, dtype: &DType, word: &str) -> Result<Option<Pos
     ensures value { IfOk result (λ found.
         option_map position_tree found ≡ number_of_type (type_of dtype.now) word.now) }
     ensures valid { IfOk result (λ found. AreValid (scalars_in found)) }
-    ensures refused { IfErr result (λ e. e ≡ OutOfMemory) }
+    ensures refused { IfErr result (λ e. (e ≡ OutOfMemory)
+        × AsksMemory (number_of_type (type_of dtype.now) word.now)) }
 {
     shapes_say_types();
     match logical_type_of(dtype) {
@@ -230,7 +236,8 @@ fn number_of_logical(
     ensures value { IfOk result (λ found. option_map position_tree found
         ≡ number_of_shape (type_of dtype.now) (shape_of logical) word.now) }
     ensures valid { IfOk result (λ found. AreValid (scalars_in found)) }
-    ensures refused { IfErr result (λ e. e ≡ OutOfMemory) }
+    ensures refused { IfErr result (λ e. (e ≡ OutOfMemory)
+        × AsksMemory (number_of_shape (type_of dtype.now) (shape_of logical) word.now)) }
 {
     match logical {
         LogicalType::Float64 | LogicalType::Float32 => written(alloc, dtype, logical, word),
@@ -250,7 +257,8 @@ fn written(
     ensures value { IfOk result (λ found. option_map position_tree found
         ≡ written_value (type_of dtype.now) (shape_of logical) word.now) }
     ensures valid { IfOk result (λ found. AreValid (scalars_in found)) }
-    ensures refused { IfErr result (λ e. e ≡ OutOfMemory) }
+    ensures refused { IfErr result (λ e. (e ≡ OutOfMemory)
+        × AsksMemory (written_value (type_of dtype.now) (shape_of logical) word.now)) }
 {
     laws::shapes_say_words();
     match storage_of_word(logical, word.as_bytes()) {
@@ -273,7 +281,8 @@ fn decimal_in(
     ensures value { IfOk result (λ found. option_map position_tree found
         ≡ number_of_shape (type_of dtype.now) (shape_of (LogicalTypes.Decimal decimal)) word.now) }
     ensures valid { IfOk result (λ found. AreValid (scalars_in found)) }
-    ensures refused { IfErr result (λ e. e ≡ OutOfMemory) }
+    ensures refused { IfErr result (λ e. (e ≡ OutOfMemory)
+        × AsksMemory (number_of_shape (type_of dtype.now) (shape_of (LogicalTypes.Decimal decimal)) word.now)) }
 {
     match place_among_values(decimal, word.as_bytes()) {
         Some(place) => decimal_at(alloc, dtype, decimal, place),
@@ -293,7 +302,8 @@ fn decimal_at(
     ensures value { IfOk result (λ found. option_map position_tree found
         ≡ Some (decimal_at (type_of dtype.now) (shape_of (LogicalTypes.Decimal decimal)) place)) }
     ensures valid { IfOk result (λ found. AreValid (scalars_in found)) }
-    ensures refused { IfErr result (λ e. e ≡ OutOfMemory) }
+    ensures refused { IfErr result (λ e. (e ≡ OutOfMemory)
+        × AsksMemory (Some (decimal_at (type_of dtype.now) (shape_of (LogicalTypes.Decimal decimal)) place))) }
 {
     let logical = LogicalType::Decimal(decimal);
     match place {
@@ -322,7 +332,7 @@ fn logical_scalar(
     ensures cell { IfOk result (λ x. cell_of x
         ≡ logical_cell (type_of dtype.now) (shape_of logical) storage) }
     ensures valid { IfOk result IsValid }
-    ensures refused { IfErr result (λ e. e ≡ OutOfMemory) }
+    ensures refused { IfErr result (λ e. (e ≡ OutOfMemory) × ¬ (IsFlat (type_of dtype.now))) }
 {
     match scalar_of_column(alloc, dtype, logical, storage) {
         Ok(scalar) => Ok(scalar),
@@ -340,7 +350,8 @@ fn text_in(alloc: Global, dtype: &DType, text: &str) -> Result<Option<Position>,
     ensures value { IfOk result (λ found.
         option_map position_tree found ≡ text_in (type_of dtype.now) text.now) }
     ensures valid { IfOk result (λ found. AreValid (scalars_in found)) }
-    ensures refused { IfErr result (λ e. e ≡ OutOfMemory) }
+    ensures refused { IfErr result (λ e. (e ≡ OutOfMemory)
+        × AsksMemory (text_in (type_of dtype.now) text.now)) }
 {
     match dtype {
         DType::Utf8(_) => string_in(alloc, text),
@@ -355,7 +366,8 @@ fn text_of_type(alloc: Global, dtype: &DType, text: &str) -> Result<Option<Posit
     ensures value { IfOk result (λ found.
         option_map position_tree found ≡ text_of_type (type_of dtype.now) text.now) }
     ensures valid { IfOk result (λ found. AreValid (scalars_in found)) }
-    ensures refused { IfErr result (λ e. e ≡ OutOfMemory) }
+    ensures refused { IfErr result (λ e. (e ≡ OutOfMemory)
+        × AsksMemory (text_of_type (type_of dtype.now) text.now)) }
 {
     shapes_say_types();
     match logical_type_of(dtype) {
@@ -375,7 +387,8 @@ fn text_of_logical(
     ensures value { IfOk result (λ found. option_map position_tree found
         ≡ text_of_shape (type_of dtype.now) (shape_of logical) text.now) }
     ensures valid { IfOk result (λ found. AreValid (scalars_in found)) }
-    ensures refused { IfErr result (λ e. e ≡ OutOfMemory) }
+    ensures refused { IfErr result (λ e. (e ≡ OutOfMemory)
+        × AsksMemory (text_of_shape (type_of dtype.now) (shape_of logical) text.now)) }
 {
     match logical {
         LogicalType::Date | LogicalType::Time(_) | LogicalType::Timestamp { .. } => {
@@ -392,7 +405,8 @@ fn string_in(alloc: Global, text: &str) -> Result<Option<Position>, FilterError>
     ensures value { IfOk result (λ found.
         option_map position_tree found ≡ Some (exactly (text_cell text.now))) }
     ensures valid { IfOk result (λ found. AreValid (scalars_in found)) }
-    ensures refused { IfErr result (λ e. e ≡ OutOfMemory) }
+    ensures refused { IfErr result (λ e. (e ≡ OutOfMemory)
+        × AsksMemory (Some (exactly (text_cell text.now)))) }
 {
     match BufferString::from_str(alloc, text) {
         Ok(text) => {
@@ -411,7 +425,8 @@ fn bytes_in(alloc: Global, dtype: &DType, bytes: &[u8]) -> Result<Option<Positio
     ensures value { IfOk result (λ found.
         option_map position_tree found ≡ bytes_in (type_of dtype.now) bytes.now) }
     ensures valid { IfOk result (λ found. AreValid (scalars_in found)) }
-    ensures refused { IfErr result (λ e. e ≡ OutOfMemory) }
+    ensures refused { IfErr result (λ e. (e ≡ OutOfMemory)
+        × AsksMemory (bytes_in (type_of dtype.now) bytes.now)) }
 {
     match dtype {
         DType::Binary(_) => match ByteBuffer::from_slice(alloc, bytes) {

@@ -1,6 +1,6 @@
 //! Tests of a column with literals, by where these stand among the values of its type.
 
-ghost use Rattle.std.specs.Prelude.{◌≡◌, ◌∷◌, ◌++◌, [], IfErr, IfOk, IfSome, map, option_map};
+ghost use Rattle.std.specs.Prelude.{◌≡◌, ◌≢◌, ◌⊎◌, ◌∷◌, ◌++◌, [], IfErr, IfOk, IfSome, map, option_map};
 ghost use Rattle.vortex_filter.specs.FilterLiterals.{literals_of};
 ghost use Rattle.vortex_filter.specs.Positions.{cells_of, compared_scalars, comparison_above, comparison_of, exactly};
 ghost use Rattle.vortex_filter.specs.Positions.{for_values, member_of, position_tree, prefix_of, range_of, scalars_at};
@@ -35,7 +35,7 @@ fn for_values(alloc: Global, holds: bool, column: usize) -> Result<Filter, Filte
 /// How the column stands to a literal. To a number that its type lacks, each value stands the same, or
 /// those up to one value and those behind it.
 ///
-/// `OutOfMemory` is its only refusal.
+/// `OutOfMemory` is its only refusal, and comes only where each value stands the same.
 #[tactic(auto, using(crate::proofs::Steps::shown, crate::proofs::LiteralSteps::literals))]
 pub fn comparison_of(
     alloc: Global,
@@ -46,7 +46,7 @@ pub fn comparison_of(
     ensures made { IfOk result (λ f.
         formula f ≡ comparison_of column operator (position_tree literal)) }
     ensures literals { IfOk result (λ f. literals_of f ≡ compared_scalars operator literal) }
-    ensures refused { IfErr result (λ e. e ≡ OutOfMemory) }
+    ensures refused { IfErr result (λ e. (e ≡ OutOfMemory) × (compared_scalars operator literal ≡ [])) }
 {
     match literal {
         Position::Exactly(literal) => Ok(Filter::Compare {
@@ -70,7 +70,7 @@ fn comparison_above(
     ensures made { IfOk result (λ f.
         formula f ≡ comparison_above column operator (cell_of value)) }
     ensures literals { IfOk result (λ f. literals_of f ≡ scalars_below operator value) }
-    ensures refused { IfErr result (λ e. e ≡ OutOfMemory) }
+    ensures refused { IfErr result (λ e. (e ≡ OutOfMemory) × (scalars_below operator value ≡ [])) }
 {
     match operator {
         CompareOperator::Eq => {
@@ -97,7 +97,7 @@ fn comparison_above(
 /// Whether the column lies between the literals. If its type lacks one of them, it is two
 /// comparisons.
 ///
-/// `OutOfMemory` is its only refusal.
+/// `OutOfMemory` is its only refusal, and comes only if its type lacks one of them.
 pub fn range_of(
     alloc: Global,
     column: usize,
@@ -108,7 +108,8 @@ pub fn range_of(
         formula f ≡ range_of column (position_tree lower) (position_tree upper)) }
     ensures literals { IfOk result (λ f. literals_of f
         ≡ compared_scalars CompareOperator.Gte lower ++ compared_scalars CompareOperator.Lte upper) }
-    ensures refused { IfErr result (λ e. e ≡ OutOfMemory) }
+    ensures refused { IfErr result (λ e. (e ≡ OutOfMemory)
+        × ((scalars_at lower ≡ []) ⊎ (scalars_at upper ≡ []))) }
 {
     match lower {
         Position::Exactly(lower) => range_from(alloc, column, lower, upper),
@@ -129,7 +130,7 @@ fn range_from(
         formula f ≡ range_of column (exactly (cell_of lower)) (position_tree upper)) }
     ensures literals { IfOk result (λ f.
         literals_of f ≡ lower ∷ compared_scalars CompareOperator.Lte upper) }
-    ensures refused { IfErr result (λ e. e ≡ OutOfMemory) }
+    ensures refused { IfErr result (λ e. (e ≡ OutOfMemory) × (scalars_at upper ≡ [])) }
 {
     match upper {
         Position::Exactly(upper) => Ok(Filter::Between {
@@ -174,13 +175,13 @@ fn halves(
 /// Whether the column is one of several literals, of which its type has these. Of none: the same for
 /// each value.
 ///
-/// `OutOfMemory` is its only refusal.
+/// `OutOfMemory` is its only refusal, and comes only of none.
 #[tactic(auto, using(crate::proofs::Steps::shown, crate::proofs::LiteralSteps::literals))]
 pub fn member_of(alloc: Global, column: usize, literals: Vec<Scalar>) -> Result<Filter, FilterError>
     ensures made { IfOk result (λ f. formula f
         ≡ member_of column (map cell_of literals.items)) }
     ensures literals { IfOk result (λ f. literals_of f ≡ literals.items) }
-    ensures refused { IfErr result (λ e. e ≡ OutOfMemory) }
+    ensures refused { IfErr result (λ e. (e ≡ OutOfMemory) × (literals.items ≡ [])) }
 {
     if literals.is_empty() {
         drop(literals);
@@ -191,7 +192,7 @@ pub fn member_of(alloc: Global, column: usize, literals: Vec<Scalar>) -> Result<
 
 /// The literals with one more, if the type has it.
 ///
-/// `OutOfMemory` is its only refusal.
+/// `OutOfMemory` is its only refusal, and comes only for one more.
 pub fn with_position(
     mut literals: Vec<Scalar>,
     position: Position,
@@ -199,7 +200,7 @@ pub fn with_position(
     ensures made { IfOk result (λ v. map cell_of v.items
         ≡ map cell_of literals.items ++ cells_of (position_tree position ∷ [])) }
     ensures literals { IfOk result (λ v. v.items ≡ literals.items ++ scalars_at position) }
-    ensures refused { IfErr result (λ e. e ≡ OutOfMemory) }
+    ensures refused { IfErr result (λ e. (e ≡ OutOfMemory) × (scalars_at position ≢ [])) }
 {
     match position {
         Position::Exactly(literal) => {

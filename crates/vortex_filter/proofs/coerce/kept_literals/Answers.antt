@@ -8,7 +8,7 @@ use Rattle.vortex_filter.proofs.coerce.kept_literals.Goals as goal
 
 pub loop-literal-preserved : goal.loop-literal-preserved
 loop-literal-preserved c =
-    let stands = c.in_ok-position.ensures in
+    let stands = c.in_ok-position.ensures.made in
     let before : c.loop-literal.literal-index < length c.args.literals.now = omega arith in (
       kept_step (type_of c.args.dtype.now) c.args.literals.now c.loop-literal.literal-index c.literal-item.result c.in_ok-position.position (map cell_of c.loop-literal.kept.items) (map cell_of c.in_ok-kept-2.kept.items) before c.literal-item.is c.loop-literal.invariant.0 stands c.in_ok-kept-2.ensures.made,
       λ v. valid_with _ _ _ c.in_ok-kept-2.ensures.literals (c.loop-literal.invariant.1 v) (valid_at c.in_ok-position.position (stands.2 (subst IsValid (sym c.literal-item.is) (holds_at IsValid c.args.literals.now c.loop-literal.literal-index c.literal-item.result before v)))),
@@ -17,7 +17,7 @@ loop-literal-preserved c =
 pub returns-in_err-position : goal.returns-in_err-position
 returns-in_err-position c =
     passed_literals (type_of c.args.dtype.now) c.args.column c.args.literals.now c.from_residual-in_err-position.result c.in_err-position.field-0.0 c.from_residual-in_err-position.ensures.1
-    (item_refused (type_of c.args.dtype.now) c.args.column c.args.literals.now c.loop-literal.literal-index c.literal-item.result c.in_err-position.field-0.0 (omega arith) c.literal-item.is c.in_err-position.ensures)
+    (item_refused (type_of c.args.dtype.now) c.args.column c.args.literals.now c.loop-literal.literal-index c.literal-item.result c.in_err-position.field-0.0 (omega arith) c.literal-item.is c.in_err-position.ensures.made)
 
 pub returns : goal.returns
 returns c =
