@@ -1,6 +1,6 @@
 -- Encodings: what begins with two of them, and the first byte that none has.
 use Rattle.std.specs.List.{list_any}
-use Rattle.std.proofs.Common.{◌≡◌, ◌≢◌, ◌⊎◌, ◌||◌, Bool, true, false, cond, inl, inr, true≢false, ℕ, zero, suc, ◌+◌, ◌-◌, ◌<◌, ◌≤◌, List, [], ◌∷◌, ◌++◌, length, length-append, take, drop, refl, sym, subst, ap, ap₂, ◌∙◌, append_assoc, append-nil, arith}
+use Rattle.std.proofs.Common.{◌≡◌, ◌≢◌, ◌⊎◌, ◌||◌, Bool, true, false, cond, inl, inr, true≢false, ℕ, zero, suc, ◌+◌, ◌-◌, ◌^◌, ◌<◌, ◌≤◌, List, [], ◌∷◌, ◌++◌, length, length-append, take, drop, refl, sym, subst, ap, ap₂, ◌∙◌, append_assoc, append-nil, arith}
 use Rattle.std.specs.Prelude.{Err, IfErr, IfOk, IsErr, MatchResult, Ok, Result}
 use Rattle.std.specs.Result.{IsErrAnd}
 use Rattle.vortex_dtype.specs.TypeTree.{TypeTree}
@@ -10,7 +10,7 @@ use Rattle.vortex_row.proofs.ReaderSteps.{take-then}
 use Rattle.filter_encoding.specs.Answers.{HasNoValue, IsFirstWrong, IsEncoding, ReadsAs}
 use Rattle.filter_encoding.specs.Encoding.{EncodingsAreApart, HasEncoding, HasValues, IsFormed, IsPlain, IsVersion, Prepared, encoding_in, has_extended, is_extension, node_bytes, prepared, type_bytes, version_of}
 use Rattle.filter_encoding.specs.Lists.{AreListed, listed}
-use Rattle.filter_encoding.specs.Steps.{IsNode, IsNodeEncoding, ReadsEncoding}
+use Rattle.filter_encoding.specs.Steps.{IsNoValueOf, IsNode, IsNodeEncoding, ReadsEncoding}
 use Rattle.filter_encoding.specs.declared.error.FilterEncodingError.{FilterEncodingError}
 use Rattle.filter_encoding.specs.declared.error.FilterEncodingError.TheVariants.{BadBytes, NotAValue, OutOfMemory}
 use Rattle.filter_encoding.specs.declared.prepared.PreparedFilter.{PreparedFilter}
@@ -20,6 +20,7 @@ use Rattle.filter_encoding.specs.Strings.{BeginAlike, HasRead, IsEncodingOf, IsS
 use Rattle.filter_encoding.proofs.HeadLaws.{some_node}
 use Rattle.filter_encoding.proofs.ListLaws.{listed_apart}
 use Rattle.filter_encoding.proofs.LiteralLaws.{drop_front, inside}
+use Rattle.filter_encoding.proofs.NoValueLaws.{first_within, none_in, told}
 use Rattle.filter_encoding.proofs.NodeLaws.{first_stuck, node_apart, second_stuck}
 use Rattle.filter_encoding.proofs.PlaceLaws.{places_apart}
 use Rattle.filter_encoding.proofs.Stuck.{AreApart, GoesOn, NoneHere, alike_itself, encoding_of, stuck_here}
@@ -213,11 +214,11 @@ same_encoding n v w p q h g e = (encodings_apart n n v w p q [] [] h g (ap (λ x
 
 -- ---- what reading answers
 
-module _ (n : ℕ) (p : PreparedFilter) (bytes now : List ℕ) (left taken stray : ℕ) (rest : length now ≡ left) (is : taken ≡ length bytes - left) (h : HasBeenRead n (prepared p) bytes now) where
+module _ (n : ℕ) (p : PreparedFilter) (bytes now : List ℕ) (left taken : ℕ) (rest : length now ≡ left) (is : taken ≡ length bytes - left) (small : length bytes < 2 ^ 64) (h : HasBeenRead n (prepared p) bytes now) where
   abbrev Answers : Result PreparedFilter FilterEncodingError → Type 0
   Answers r =
       MatchResult r (λ q. (q ≡ p) × (length bytes ≤ taken) × HasValues (formula p.filter))
-      (λ e. ((e ≡ BadBytes taken) × (taken < length bytes)) ⊎ ((e ≡ NotAValue stray) × (length bytes ≤ taken) × ¬ (HasValues (formula p.filter))))
+      (λ e. ((e ≡ BadBytes taken) × (taken < length bytes)) ⊎ ((length bytes ≤ taken) × IsNoValueOf (prepared p) e))
 
   whole : length bytes ≤ taken → (version : ℕ) × IsVersion version × (bytes ≡ encoding_in version (prepared p))
   whole more = whole_read n (prepared p) bytes now left taken rest is h more
@@ -234,22 +235,36 @@ module _ (n : ℕ) (p : PreparedFilter) (bytes now : List ℕ) (left taken stray
   pub ok_whole : (r : Result PreparedFilter FilterEncodingError) → Answers r → (version : ℕ) (q : Prepared) → IsVersion version → HasEncoding n q → bytes ≡ encoding_in version q → ReadsAs q r
   ok_whole (Ok x) a version q one g e = ap prepared a.0 ∙ same a.1 version q g.formed e
   ok_whole (Err d) (inl a) version q one g e = absurd ((wrong_after n (prepared p) bytes now left taken rest is h a.1).none (record { version = version; value = q; is_version = one; is_one = g.formed; is = e }))
-  ok_whole (Err d) (inr a) version q one g e = absurd (a.2 (subst (λ (x : Prepared). HasValues x.filter) (sym (same a.1 version q g.formed e)) g.values))
+  ok_whole (Err d) (inr a) version q one g e =
+      let t = told (prepared p) d a.1 in
+      absurd (none_in (formula p.filter) t.place t.first (subst (λ (x : Prepared). HasValues x.filter) (sym (same a.0 version q g.formed e)) g.values))
 
   pub ok_bad : (r : Result PreparedFilter FilterEncodingError) → Answers r → (place : ℕ) → r ≡ Err (BadBytes place) → IsFirstWrong (IsEncoding n) bytes place
   ok_bad (Ok x) a place e = absurd (cc)
   ok_bad (Err d) (inl a) place e = let same : taken ≡ place = (let f = a.0 in cc) in subst (IsFirstWrong (IsEncoding n) bytes) same (wrong_after n (prepared p) bytes now left taken rest is h a.1)
-  ok_bad (Err d) (inr a) place e = let f = a.0 in absurd (cc)
+  ok_bad (Err d) (inr a) place e = let f = (told (prepared p) d a.1).is in absurd (cc)
 
-  pub ok_no_value : (r : Result PreparedFilter FilterEncodingError) → Answers r → (place : ℕ) → r ≡ Err (NotAValue place) → HasNoValue n bytes
+  pub ok_no_value : (r : Result PreparedFilter FilterEncodingError) → Answers r → (place : ℕ) → r ≡ Err (NotAValue place) → HasNoValue n bytes place
   ok_no_value (Ok x) a place e = absurd (cc)
   ok_no_value (Err d) (inl a) place e = let f = a.0 in absurd (cc)
-  ok_no_value (Err d) (inr a) place e = let w = whole a.1 in record { encoded = record { version = w.0; value = prepared p; is_version = w.1; is_one = h.2.is_one; is = w.2 }; none = a.2 }
+  ok_no_value (Err d) (inr a) place e =
+      let w = whole a.0 in
+      let t = told (prepared p) d a.1 in
+      let same_place : t.offset ≡ place = (let f = t.is in cc) in
+      let long = ap length w.2 in
+      record {
+        encoded = record { version = w.0; value = prepared p; is_version = w.1; is_one = h.2.is_one; is = w.2 };
+        first = (
+          t.place,
+          omega (arith, same_place, t.at, small, long, first_within (formula p.filter) t.place t.first, length-append (listed type_bytes (prepared p).types) (node_bytes (formula p.filter))),
+          t.first,
+        );
+      }
 
   pub ok_refused : (r : Result PreparedFilter FilterEncodingError) → Answers r → IfErr r (λ e. (e ≡ OutOfMemory) ⊎ (((place : ℕ) × (e ≡ BadBytes place)) ⊎ ((place : ℕ) × (e ≡ NotAValue place))))
   ok_refused (Ok x) a = tt
   ok_refused (Err d) (inl a) = inr (inl (taken, a.0))
-  ok_refused (Err d) (inr a) = inr (inr (stray, a.0))
+  ok_refused (Err d) (inr a) = let t = told (prepared p) d a.1 in inr (inr (t.offset, t.is))
 
 -- where the bytes are stuck
 pub bad_whole : (n : ℕ) (bytes : List ℕ) (place : ℕ) → IsFirstWrong (IsEncoding n) bytes place → (version : ℕ) (q : Prepared) → IsVersion version → HasEncoding n q → bytes ≡ encoding_in version q → BadBytes place ≡ OutOfMemory

@@ -174,7 +174,7 @@ byte_of_plain : (t : TypeTree) → ((id m : List ℕ) (u : TypeTree) → t ≢ e
 byte_of_plain t none (by_byte h a) = h
 byte_of_plain t none (by_extension id m u is h) = absurd (none id m u is)
 
-no_extension_bytes : (t : TypeTree) → ((id m : List ℕ) (u : TypeTree) → t ≢ extension_type id m u) → byte_string t ≡ type_bytes t
+pub no_extension_bytes : (t : TypeTree) → ((id m : List ℕ) (u : TypeTree) → t ≢ extension_type id m u) → byte_string t ≡ type_bytes t
 no_extension_bytes (extension_type id m u) none = absurd (none id m u refl)
 no_extension_bytes _ none = refl
 

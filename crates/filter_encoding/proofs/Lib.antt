@@ -3,6 +3,7 @@ pub mod ExtensionLaws
 pub mod HeadLaws
 pub mod ListLaws
 pub mod LiteralLaws
+pub mod NoValueLaws
 pub mod NodeLaws
 pub mod PlaceLaws
 pub mod ReadSteps

@@ -86,6 +86,15 @@ literal_read t x c old mid now typed same h is_type value is = record {
   is = h.is ∙ ap (λ bs. type_bytes t ++ bs) is ∙ sym (append_assoc (type_bytes t) (key (scalar_content x)) now) ∙ ap₂ (λ u k. (type_bytes u ++ key k) ++ now) (sym (typed ∙ is_type)) (sym same);
 }
 
+-- a literal, of which the type is read
+pub literal_behind : (t : TypeTree) (r : Result Scalar FilterDecodeError) (old mid now : List ℕ) → HasRead type_bytes IsPlain t old mid → ReadsKey t r mid now → Reads literal_bytes IsLiteral cell_of r old now
+literal_behind t (Ok x) old mid now h k = literal_read t x (cell_of x) old mid now refl refl h k.0 k.1 k.2
+literal_behind t (Err e) old mid now h k = λ bad. key_stuck t old mid now h (k bad)
+
+pub valid_behind : (t : TypeTree) (r : Result Scalar FilterDecodeError) (old now : List ℕ) → ReadsKey t r old now → IfOk r IsValid
+valid_behind t (Ok x) old now k = subst (λ (u : TypeTree). Valid u (scalar_raw x)) (sym k.0) k.1.valid
+valid_behind t (Err e) old now k = tt
+
 -- the type of a literal is stuck
 byte_values : (t : TypeTree) → HasByte t → HasValues t
 byte_values null_type h = tt

@@ -1,6 +1,6 @@
 -- Which literals are values of their logical types.
-use Rattle.std.proofs.Common.{◌≡◌, ◌≢◌, ◌⊎◌, ◌||◌, ◌<◌, ◌+◌, inl, inr, ℕ, suc, ℤ, Bool, true, false, List, ◌∷◌, length, drop, drop-cons, get_or, map, refl, sym, subst, ap, ◌∙◌, arith}
-use Rattle.std.specs.List.{AllByRecursion, list_any}
+use Rattle.std.proofs.Common.{◌≡◌, ◌≢◌, ◌⊎◌, ◌||◌, ◌<◌, ◌+◌, inl, inr, ℕ, suc, ℤ, Bool, true, false, List, length, drop, drop-cons, get_or, map, refl, sym, ap, ◌∙◌, arith}
+use Rattle.std.specs.List.{list_any}
 use Rattle.vortex_value.specs.Values.Content.{content, null}
 use Rattle.vortex_value.specs.Values.RawTree.{RawTree, absent, is_absent}
 use Rattle.vortex_value.specs.Values.Scalars.{scalar_raw, scalar_type}
@@ -65,24 +65,5 @@ null_scalar x e = valid_null (cell_of x) (absent_null (scalar_raw x) e)
 
 pub no_value_scalar : (x : Scalar) (l : LogicalType) → IsOfLogicalType (scalar_type x) l → is_absent (scalar_raw x) ≡ false → ((m : LogicalType) (z : ℤ) → IsLogicalValue m z (cell_of x) → ⊥) → IsLogicallyValid (cell_of x) → ⊥
 no_value_scalar x l of e none = no_valid (cell_of x) l of (present_some (scalar_raw x) e) none
-
--- literals one after another
-pub all-at : (i : ℕ) (xs : List Scalar) (x : Scalar) → i < length xs → x ≡ get_or xs i x → map cell_of (drop i xs) ≡ cell_of x ∷ map cell_of (drop (i + 1) xs)
-all-at i xs x less is =
-    let one : suc i ≡ i + 1 = omega arith in
-    ap (map cell_of) (drop-cons xs i x less) ∙ ap (λ y. cell_of y ∷ map cell_of (drop (suc i) xs)) (sym is) ∙ ap (λ n. cell_of x ∷ map cell_of (drop n xs)) one
-
-pub all-rest : (i : ℕ) (xs : List Scalar) (x : Scalar) (b : Bool) → i < length xs → x ≡ get_or xs i x → ((b ≡ true → IsLogicallyValid (cell_of x)) × (IsLogicallyValid (cell_of x) → b ≡ true)) → b ≡ true
-    → ((AllByRecursion IsLogicallyValid (map cell_of (drop i xs)) → AllByRecursion IsLogicallyValid (map cell_of xs)) × (AllByRecursion IsLogicallyValid (map cell_of xs) → AllByRecursion IsLogicallyValid (map cell_of (drop i xs))))
-    → (AllByRecursion IsLogicallyValid (map cell_of (drop (i + 1) xs)) → AllByRecursion IsLogicallyValid (map cell_of xs)) × (AllByRecursion IsLogicallyValid (map cell_of xs) → AllByRecursion IsLogicallyValid (map cell_of (drop (i + 1) xs)))
-all-rest i xs x b less is here passes h =
-    let e = all-at i xs x less is in
-    ((λ rest. h.0 (subst (AllByRecursion IsLogicallyValid) (sym e) (here.0 passes, rest))), (λ each. (subst (AllByRecursion IsLogicallyValid) e (h.1 each)).1))
-
-pub all-here : (i : ℕ) (xs : List Scalar) (x : Scalar) (b : Bool) → i < length xs → x ≡ get_or xs i x → (IsLogicallyValid (cell_of x) → b ≡ true) → b ≡ false
-    → (AllByRecursion IsLogicallyValid (map cell_of xs) → AllByRecursion IsLogicallyValid (map cell_of (drop i xs))) → AllByRecursion IsLogicallyValid (map cell_of xs) → false ≡ true
-all-here i xs x b less is here fails h each =
-    let e = all-at i xs x less is in
-    sym fails ∙ here (subst (AllByRecursion IsLogicallyValid) e (h each)).0
 
 pub ruleset scalars = (valid_plain, null_scalar, valid_value, no_value_scalar)

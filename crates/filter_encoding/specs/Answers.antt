@@ -1,7 +1,8 @@
 -- What reading an encoding answers: the prepared filter that was written, or the first byte that no encoding has there.
-use Rattle.std.specs.Prelude.{◌≡◌, ℕ, suc, ◌<◌, ◌≤◌, List, length, take, Result, MatchResult}
+use Rattle.std.specs.Prelude.{◌≡◌, ℕ, suc, ◌+◌, ◌<◌, ◌≤◌, List, length, take, Result, MatchResult}
 use Rattle.statistics_bytes.specs.EncodingAnswers.{MayGoOn}
-use Rattle.filter_encoding.specs.Encoding.{HasValues, IsFormed, IsVersion, Prepared, encoding_in, prepared}
+use Rattle.filter_encoding.specs.Encoding.{Behind, FirstIn, IsFormed, IsVersion, Prepared, encoding_in, prepared, type_bytes}
+use Rattle.filter_encoding.specs.Lists.{listed}
 use Rattle.filter_encoding.specs.declared.error.FilterEncodingError.{FilterEncodingError}
 use Rattle.filter_encoding.specs.declared.error.FilterEncodingError.TheVariants.{OutOfMemory}
 use Rattle.filter_encoding.specs.declared.prepared.PreparedFilter.{PreparedFilter}
@@ -14,10 +15,11 @@ pub record IsEncoding (n : ℕ) (bs : List ℕ) : Type 0 where
   pub is_one : IsFormed n value
   pub is : bs ≡ encoding_in version value
 
--- the bytes are the encoding of a prepared filter with a literal that is no value of its logical type
-pub record HasNoValue (n : ℕ) (bs : List ℕ) : Type 0 where
+-- the bytes are the encoding of a prepared filter, and the key of the first literal that is no value of its logical type
+-- has this offset
+pub record HasNoValue (n : ℕ) (bs : List ℕ) (offset : ℕ) : Type 0 where
   pub encoded : IsEncoding n bs
-  pub none : ¬ (HasValues encoded.value.filter)
+  pub first : Behind (1 + length (listed type_bytes encoded.value.types)) (FirstIn encoded.value.filter) offset
 
 -- The bytes are none of the strings, and this is the offset of the first byte that none has: those before begin one,
 -- and with it they begin none. If the bytes end too early, it is the offset after them.

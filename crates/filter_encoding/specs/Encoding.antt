@@ -1,6 +1,6 @@
 -- The encoding of a prepared filter in bytes: of the types of its columns, and of the filter. These are versions 1 and 2 of the
 -- layout, which differ by their first byte alone.
-use Rattle.std.specs.Prelude.{◌≡◌, ◌⊎◌, ◌||◌, ℕ, ℤ, zero, suc, ◌+◌, Bool, true, false, List, [], ◌∷◌, ◌++◌, map, if◌then◌else◌}
+use Rattle.std.specs.Prelude.{◌≡◌, ◌⊎◌, ◌||◌, ℕ, ℤ, zero, suc, ◌+◌, Bool, true, false, List, [], ◌∷◌, ◌++◌, length, map, if◌then◌else◌}
 use Rattle.std.specs.List.{AllByRecursion, list_any}
 use Rattle.vortex_dtype.specs.TypeOf.{type_of}
 use Rattle.vortex_dtype.specs.TypeTree.{TypeTree, null_type, bool_type, integer_type, utf8_type, binary_type, extension_type}
@@ -243,6 +243,33 @@ OfEach P (negation f) = OfEach P f
 -- each literal of a logical type is a value of it
 abbrev pub HasValues : Formula → Type 0
 HasValues = OfEach IsLogicallyValid
+
+-- ---- where the first literal stands that is no value of its logical type
+
+-- At holds of what stands behind the first k bytes
+abbrev pub Behind : ℕ → (ℕ → Type 0) → ℕ → Type 0
+Behind k At n = (m : ℕ) × (n ≡ k + m) × At m
+
+-- this literal is none, and its key stands behind so many of its bytes
+abbrev pub IsNoValueAt : Cell → ℕ → Type 0
+IsNoValueAt x n = (n ≡ length (type_bytes x.typed)) × ¬ (IsLogicallyValid x)
+
+-- the first that is none of literals one after another
+abbrev pub FirstAmong : List Cell → ℕ → Type 0
+FirstAmong [] n = ⊥
+FirstAmong (x ∷ xs) n = IsNoValueAt x n ⊎ (IsLogicallyValid x × Behind (length (literal_bytes x)) (λ m. FirstAmong xs m) n)
+
+-- the first that is none of the literals of a filter
+abbrev pub FirstIn : Formula → ℕ → Type 0
+FirstIn (constant t) n = ⊥
+FirstIn (comparison k op x) n = Behind 9 (IsNoValueAt x) n
+FirstIn (null_test k) n = ⊥
+FirstIn (membership k xs) n = Behind 17 (FirstAmong xs) n
+FirstIn (range k x y) n = Behind 9 (FirstAmong (x ∷ y ∷ [])) n
+FirstIn (prefix_test k x) n = Behind 9 (IsNoValueAt x) n
+FirstIn (both f g) n = Behind 1 (λ m. FirstIn f m) n ⊎ (HasValues f × Behind (1 + length (node_bytes f)) (λ m. FirstIn g m) n)
+FirstIn (either f g) n = Behind 1 (λ m. FirstIn f m) n ⊎ (HasValues f × Behind (1 + length (node_bytes f)) (λ m. FirstIn g m) n)
+FirstIn (negation f) n = Behind 1 (λ m. FirstIn f m) n
 
 -- the same, and each literal of a logical type is a value of it
 pub record HasEncoding (n : ℕ) (p : Prepared) : Type 0 where

@@ -1,5 +1,5 @@
 -- What the steps of writing and of reading an encoding answer.
-use Rattle.std.specs.Prelude.{◌≡◌, ℕ, ◌-◌, ◌<◌, ◌≤◌, ◌==◌, List, ◌∷◌, ◌++◌, drop, length, Box, Option, Some, None, Result, MatchResult, nat_lt, if◌then◌else◌}
+use Rattle.std.specs.Prelude.{◌≡◌, ℕ, ◌+◌, ◌-◌, ◌<◌, ◌≤◌, ◌==◌, List, ◌∷◌, ◌++◌, drop, length, Box, Option, Some, None, Result, MatchResult, nat_lt, if◌then◌else◌}
 use Rattle.std.specs.Global.{Global}
 use Rattle.vortex_dtype.specs.TypeTree.{TypeTree, null_type, bool_type, integer_type, utf8_type, binary_type}
 use Rattle.vortex_dtype.specs.TypeOf.{type_of}
@@ -7,6 +7,7 @@ use Rattle.vortex_dtype.specs.declared.types.DType.{DType}
 use Rattle.vortex_dtype.specs.declared.nullability.Nullability.{Nullability}
 use Rattle.vortex_dtype.specs.declared.nullability.Nullability.TheVariants.{NonNullable, Nullable}
 use Rattle.vortex_dtype.specs.declared.ptype.PType.TheVariants.{U8, U16, U32, U64, I8, I16, I32, I64}
+use Rattle.vortex_value.specs.Size.{capped}
 use Rattle.vortex_value.specs.Values.Content.{content, text, string}
 use Rattle.vortex_value.specs.Values.RawTree.{RawTree}
 use Rattle.vortex_value.specs.Values.Scalars.{scalar_content, scalar_raw, scalar_type}
@@ -16,8 +17,9 @@ use Rattle.vortex_row.specs.Held.{IsHeld}
 use Rattle.vortex_row.specs.Keys.{key}
 use Rattle.vortex_filter.specs.Formula.{Formula, formula}
 use Rattle.vortex_filter.specs.declared.filter.Filter.{Filter}
-use Rattle.filter_encoding.specs.Encoding.{HasByte, IsFormed, IsLiteral, IsPlain, IsVersion, Nests, byte_string, encoding_in, node_bytes, operator_byte, prepared, truth_byte, type_bytes}
+use Rattle.filter_encoding.specs.Encoding.{FirstIn, HasByte, IsFormed, IsLiteral, IsPlain, IsVersion, Nests, byte_string, encoding_in, node_bytes, operator_byte, Prepared, prepared, truth_byte, type_bytes}
 use Rattle.filter_encoding.specs.Answers.{IsEncoding}
+use Rattle.filter_encoding.specs.Lists.{listed}
 use Rattle.filter_encoding.specs.Strings.{HasRead, IsEncodingOf, IsStuck, Reads, Then}
 use Rattle.filter_encoding.specs.declared.error.FilterEncodingError.{FilterEncodingError}
 use Rattle.filter_encoding.specs.declared.error.FilterEncodingError.TheVariants.{BadBytes, NoEncoding, NotAValue, OutOfMemory}
@@ -28,6 +30,7 @@ use Rattle.filter_encoding.specs.declared.literals.Found.TheVariants.{NoMemory, 
 use Rattle.filter_encoding.specs.declared.prepared.PreparedFilter.{PreparedFilter}
 use Rattle.filter_encoding.specs.declared.reader.FilterDecodeError.{FilterDecodeError}
 use Rattle.filter_encoding.specs.declared.reader.FilterDecodeError.TheVariants.{Bad}
+use Rattle.filter_encoding.specs.declared.values.NoValue.{NoValue}
 
 -- ---- types
 
@@ -130,6 +133,16 @@ ReadsEncoding n r old now = MatchResult r (λ p. (version : ℕ) × IsVersion ve
 -- a filter with this first byte, which was taken, is read, or memory is refused, or the bytes go on as none
 abbrev pub ReadsBehind : ℕ → ℕ → Result Filter FilterDecodeError → List ℕ → List ℕ → Type 0
 ReadsBehind head n r old now = Reads node_bytes (IsNode n) formula r (head ∷ old) now
+
+-- each literal of what has so many bytes, from an offset on, is a value of its logical type, and the offset behind it is given;
+-- or else that of the first that is none
+abbrev pub Passes : Type 0 → (count offset : ℕ) → (ℕ → Type 0) → Result ℕ NoValue → Type 0
+Passes all count offset At r = MatchResult r (λ end. all × (end ≡ capped (offset + count))) (λ e. (n : ℕ) × (e.offset ≡ capped (offset + n)) × At n)
+
+-- e tells the first literal of a prepared filter that is no value of its logical type
+abbrev pub IsNoValueOf : Prepared → FilterEncodingError → Type 0
+IsNoValueOf p (NotAValue offset) = (n : ℕ) × (offset ≡ capped (1 + length (listed type_bytes p.types) + n)) × FirstIn p.filter n
+IsNoValueOf p _ = ⊥
 
 -- ---- writing
 

@@ -1,6 +1,6 @@
 //! The bytes of extensions: an id and metadata by their keys, and what stores the values.
 
-ghost use Rattle.std.specs.Prelude.{◌≡◌, ◌≢◌, ◌∷◌, ℕ, List, MatchOption};
+ghost use Rattle.std.specs.Prelude.{◌≡◌, ◌≢◌, ◌∷◌, ℕ, List, MatchOption, length};
 ghost use Rattle.vortex_dtype.specs.TypeTree.{TypeTree, binary_type, extension_type, utf8_type};
 ghost use Rattle.vortex_dtype.specs.Words.{ext_of};
 ghost use Rattle.vortex_dtype.specs.declared.nullability.Nullability.TheVariants as Nullabilities;
@@ -9,7 +9,7 @@ ghost use Rattle.vortex_value.specs.Values.Content.{string, text};
 ghost use Rattle.vortex_value.specs.Values.RawTree.{raw_bytes, raw_text};
 ghost use Rattle.vortex_value.specs.Values.Scalars.{scalar_raw};
 ghost use Rattle.filter_encoding.specs.Words.{Appends, IsHeld, IsPlainExtension, Reads, ReadsBytes, ReadsText, Writes};
-ghost use Rattle.filter_encoding.specs.Words.{IsPlain, extension_bytes, key, left, type_bytes, type_of};
+ghost use Rattle.filter_encoding.specs.Words.{IsPlain, capped, extension_bytes, key, left, type_bytes, type_of};
 
 use crate::error::FilterEncodingError;
 use crate::literals::{append_value, read_value};
@@ -18,6 +18,7 @@ use crate::types::{append_byte_type, read_byte_type};
 use crate::writing::append_byte;
 use std::alloc::Global;
 use vortex_dtype::{BufferString, ByteBuffer, DType, ExtDType, Nullability};
+use vortex_row::{PlainValue, plain_key_length};
 use vortex_value::{Scalar, ScalarValue};
 
 /// The first byte of an extension.
@@ -92,6 +93,16 @@ fn buffer_in(scalar: Scalar) -> ByteBuffer
         Some(ScalarValue::Binary(bytes)) => bytes,
         _ => unreachable!(),
     }
+}
+
+/// How many bytes an extension has.
+pub(crate) fn extension_length(extension: &ExtDType) -> usize
+    ensures { result ≡ capped (length (extension_bytes (ext_of extension.now).id
+        (ext_of extension.now).metadata (ext_of extension.now).storage)) }
+{
+    let id = plain_key_length(PlainValue::Utf8(extension.id().as_str()));
+    let metadata = plain_key_length(PlainValue::Binary(extension.metadata().as_slice()));
+    id.saturating_add(metadata).saturating_add(2)
 }
 
 /// Appends an extension.

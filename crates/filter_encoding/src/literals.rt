@@ -79,10 +79,7 @@ pub(crate) fn read_literal(
     ensures valid { IfOk result IsValid }
 {
     let dtype = read_type(alloc, reader)?;
-    let place = reader.rest.len();
-    let literal = read_value(alloc, &dtype, reader)?;
-    reader.note(place, is_logically_valid(&literal));
-    Ok(literal)
+    read_value(alloc, &dtype, reader)
 }
 
 /// So many literals.

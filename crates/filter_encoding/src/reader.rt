@@ -38,8 +38,6 @@ impl<T: Drop> From<AllocFailed<T>> for FilterDecodeError {
 pub(crate) struct Reader<'a> {
     /// What is left.
     pub(crate) rest: &'a [u8],
-    /// How many bytes were left where the first literal stands that is no value of its logical type.
-    pub(crate) no_value: Option<usize>,
 }
 
 impl Reader<'_> {
@@ -68,15 +66,6 @@ impl Reader<'_> {
                 true
             }
             _ => false,
-        }
-    }
-
-    /// Remembers where a literal stands, if it is the first that is no value of its logical type.
-    pub(crate) fn note(&mut self, place: usize, is_value: bool)
-        ensures { left self.new ≡ left self.old }
-    {
-        if !is_value && self.no_value.is_none() {
-            self.no_value = Some(place);
         }
     }
 

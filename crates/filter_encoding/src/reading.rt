@@ -1,10 +1,12 @@
 //! A prepared filter from its encoding in bytes.
 
-ghost use Rattle.std.specs.Prelude.{◌≡◌, ◌≢◌, ◌∷◌, ◌⊎◌, ◌<◌, ◌≤◌, ℕ, List, Err, IfErr, IfOk, MatchResult};
+ghost use Rattle.std.specs.Prelude.{◌≡◌, ◌≢◌, ◌∷◌, ◌⊎◌, ◌<◌, ◌≤◌, ◌^◌, ℕ, List, Err, IfErr, IfOk, MatchOption};
+ghost use Rattle.std.specs.Prelude.{MatchResult};
 ghost use Rattle.filter_encoding.specs.Words.{AreValid, BadBytes, HasEncoding, HasNoValue, HasValues, IsEncoding};
-ghost use Rattle.filter_encoding.specs.Words.{IsFirstWrong, IsNode, IsVersion, NotAValue, OutOfMemory, Prepared, Reads};
-ghost use Rattle.filter_encoding.specs.Words.{ReadsAs, ReadsBehind, ReadsBoth, ReadsEncoding, encoding_in};
-ghost use Rattle.filter_encoding.specs.Words.{formula, left, literals_of, node_bytes, operator_byte, prepared};
+ghost use Rattle.filter_encoding.specs.Words.{IsFirstWrong, IsNoValueOf, IsNode, IsVersion, NotAValue};
+ghost use Rattle.filter_encoding.specs.Words.{OutOfMemory, Prepared, Reads, ReadsAs, ReadsBehind, ReadsBoth};
+ghost use Rattle.filter_encoding.specs.Words.{ReadsEncoding, encoding_in, formula, left, literals_of, node_bytes};
+ghost use Rattle.filter_encoding.specs.Words.{operator_byte, prepared};
 
 use crate::error::FilterEncodingError;
 use crate::heads::{Head, read_head};
@@ -12,8 +14,8 @@ use crate::literals::{read_literal, read_literals};
 use crate::places::read_place;
 use crate::prepared::PreparedFilter;
 use crate::reader::{FilterDecodeError, Reader};
-use crate::types::read_types;
-use crate::values::has_values;
+use crate::types::{read_types, types_length};
+use crate::values::behind_filter;
 use crate::versions::{EXTENDED, PLAIN};
 use std::alloc::Global;
 use vortex_filter::{CompareOperator, Filter, both, either, negation};
@@ -38,19 +40,15 @@ pub fn read_filter(
         → bytes.now ≡ encoding_in version p → ReadsAs p result }
     ensures bad { (place : ℕ) → result ≡ Err (BadBytes place)
         → IsFirstWrong (IsEncoding depth) bytes.now place }
-    ensures no_value { (place : ℕ) → result ≡ Err (NotAValue place) → HasNoValue depth bytes.now }
+    ensures no_value { (place : ℕ) → result ≡ Err (NotAValue place) → HasNoValue depth bytes.now place }
     ensures refused { IfErr result (λ e. (e ≡ OutOfMemory)
         ⊎ (((place : ℕ) × (e ≡ BadBytes place)) ⊎ ((place : ℕ) × (e ≡ NotAValue place)))) }
 {
-    let mut reader = Reader {
-        rest: bytes,
-        no_value: None,
-    };
+    let mut reader = Reader { rest: bytes };
     let answer = read_encoding(alloc, depth, &mut reader);
     let taken = bytes.len().saturating_sub(reader.rest.len());
-    let no_value = bytes.len().saturating_sub(reader.no_value.unwrap_or(0));
     match answer {
-        Ok(prepared) => whole_or_bad(prepared, taken, bytes.len(), no_value),
+        Ok(prepared) => whole_or_bad(prepared, taken, bytes.len()),
         Err(FilterDecodeError::NoMemory) => Err(FilterEncodingError::OutOfMemory),
         Err(FilterDecodeError::Bad) => Err(FilterEncodingError::BadBytes { offset: taken }),
     }
@@ -59,25 +57,39 @@ pub fn read_filter(
 /// The prepared filter, if its encoding was all of the bytes, and each literal is a value of its
 /// logical type.
 fn whole_or_bad(
-    prepared: PreparedFilter,
+    found: PreparedFilter,
     taken: usize,
     length: usize,
-    no_value: usize,
 ) -> Result<PreparedFilter, FilterEncodingError>
-    ensures { MatchResult result
-        (λ p. (p ≡ prepared) × (length ≤ taken) × HasValues (formula prepared.filter))
+    ensures answer { MatchResult result
+        (λ p. (p ≡ found) × (length ≤ taken) × HasValues (formula found.filter))
         (λ e. ((e ≡ BadBytes taken) × (taken < length))
-        ⊎ ((e ≡ NotAValue no_value) × (length ≤ taken) × ¬ (HasValues (formula prepared.filter)))) }
+        ⊎ ((length ≤ taken) × IsNoValueOf (prepared found) e)) }
+    ensures bound { length < 2 ^ 64 }
 {
     if taken < length {
-        drop(prepared);
+        drop(found);
         return Err(FilterEncodingError::BadBytes { offset: taken });
     }
-    if !has_values(&prepared.filter) {
-        drop(prepared);
-        return Err(FilterEncodingError::NotAValue { offset: no_value });
+    match first_no_value(&found) {
+        None => Ok(found),
+        Some(offset) => {
+            drop(found);
+            Err(FilterEncodingError::NotAValue { offset })
+        }
     }
-    Ok(prepared)
+}
+
+/// The offset of the key of the first literal that is no value of its logical type.
+fn first_no_value(found: &PreparedFilter) -> Option<usize>
+    ensures { MatchOption result (HasValues (formula found.now.filter))
+        (λ offset. IsNoValueOf (prepared found.now) (NotAValue offset)) }
+{
+    let start = types_length(&found.columns).saturating_add(1);
+    match behind_filter(&found.filter, start) {
+        Ok(_) => None,
+        Err(none) => Some(none.offset),
+    }
 }
 
 /// The prepared filter with whose encoding the bytes begin.

@@ -7,7 +7,9 @@ ghost use Rattle.filter_encoding.specs.Words.{byte_string, each_bytes, integer_c
 ghost use Rattle.filter_encoding.specs.Words.{type_at, type_byte, type_bytes, type_of};
 
 use crate::error::FilterEncodingError;
-use crate::extensions::{EXTENSION, append_extension, extension_in, read_extension};
+use crate::extensions::{
+    EXTENSION, append_extension, extension_in, extension_length, read_extension,
+};
 use crate::places::{append_place, read_place};
 use crate::reader::{FilterDecodeError, Reader};
 use crate::writing::append_byte;
@@ -175,6 +177,27 @@ pub(crate) fn append_byte_type(dtype: &DType, out: &mut Vec<u8>) -> Result<(), F
         Some(byte) => append_byte(byte, out),
         None => Err(FilterEncodingError::NoEncoding),
     }
+}
+
+/// How many bytes a type has.
+pub(crate) fn type_length(dtype: &DType) -> usize
+    ensures { result ≡ capped (length (type_bytes (type_of dtype.now))) }
+{
+    match extension_in(dtype) {
+        Some(extension) => extension_length(extension),
+        None => 1,
+    }
+}
+
+/// How many bytes there are of how many types there are, and of each.
+pub(crate) fn types_length(dtypes: &[DType]) -> usize
+    ensures { result ≡ capped (length (listed type_bytes (map type_of dtypes.now))) }
+{
+    let mut total = 8usize;
+    for dtype in dtypes {
+        total = total.saturating_add(type_length(dtype));
+    }
+    total
 }
 
 /// Appends how many types there are, and each.

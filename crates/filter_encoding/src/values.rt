@@ -1,12 +1,22 @@
-//! Which literals are values of their logical types.
+//! Which literals are values of their logical types, and where the first stands that is none.
 
-ghost use Rattle.std.specs.Prelude.{◌↔◌, IsTrue, map};
+ghost use Rattle.std.specs.Prelude.{◌∷◌, ◌↔◌, [], IsTrue, length, map};
 ghost use Rattle.std.specs.List.{AllByRecursion};
-ghost use Rattle.filter_encoding.specs.Words.{HasValues, IsLogicallyValid, cell_of, formula};
+ghost use Rattle.filter_encoding.specs.Words.{FirstAmong, FirstIn, HasValues, IsLogicallyValid, IsNoValueAt, Passes};
+ghost use Rattle.filter_encoding.specs.Words.{cell_of, each_bytes, formula, literal_bytes, node_bytes};
 
+use crate::types::type_length;
 use logical_scalars::logical_type_of;
 use vortex_filter::{Filter, logical_value};
-use vortex_value::Scalar;
+use vortex_row::key_length;
+use vortex_value::{Scalar, ScalarRef};
+
+/// A literal that is no value of its logical type.
+#[derive(Clone, Copy)]
+pub(crate) struct NoValue {
+    /// The offset of its key.
+    pub(crate) offset: usize,
+}
 
 /// Whether a literal of a logical type is null, or a value of it.
 #[tactic(auto, using(crate::proofs::ValueLaws::scalars))]
@@ -25,32 +35,62 @@ pub(crate) fn is_logically_valid(literal: &Scalar) -> bool
     }
 }
 
-/// Whether each of the literals is so.
-fn are_logically_valid(literals: &[Scalar]) -> bool
-    ensures { IsTrue result ↔ AllByRecursion IsLogicallyValid (map cell_of literals.now) }
+/// The offset behind a literal, which is a value of its logical type if it has one.
+fn behind_literal(literal: &Scalar, offset: usize) -> Result<usize, NoValue>
+    ensures { Passes (IsLogicallyValid (cell_of literal.now))
+        (length (literal_bytes (cell_of literal.now))) offset
+        (IsNoValueAt (cell_of literal.now)) result }
 {
-    for literal in literals {
-        if !is_logically_valid(literal) {
-            return false;
-        }
+    let key = offset.saturating_add(type_length(&literal.dtype));
+    if !is_logically_valid(literal) {
+        return Err(NoValue { offset: key });
     }
-    true
+    Ok(key.saturating_add(key_length(ScalarRef::of(literal))))
 }
 
-/// Whether each literal of a filter is so.
-pub(crate) fn has_values(filter: &Filter) -> bool
-    ensures { IsTrue result ↔ HasValues (formula filter.now) }
+/// The offset behind two literals, which are so.
+fn behind_two(first: &Scalar, second: &Scalar, offset: usize) -> Result<usize, NoValue>
+    ensures { Passes (IsLogicallyValid (cell_of first.now) × IsLogicallyValid (cell_of second.now))
+        (length (each_bytes literal_bytes (cell_of first.now ∷ cell_of second.now ∷ []))) offset
+        (FirstAmong (cell_of first.now ∷ cell_of second.now ∷ [])) result }
+{
+    let middle = behind_literal(first, offset)?;
+    behind_literal(second, middle)
+}
+
+/// The offset behind literals one after another, which are so.
+fn behind_literals(literals: &[Scalar], offset: usize) -> Result<usize, NoValue>
+    ensures { Passes (AllByRecursion IsLogicallyValid (map cell_of literals.now))
+        (length (each_bytes literal_bytes (map cell_of literals.now))) offset
+        (FirstAmong (map cell_of literals.now)) result }
+{
+    let mut end = offset;
+    for literal in literals {
+        end = behind_literal(literal, end)?;
+    }
+    Ok(end)
+}
+
+/// The offset behind a filter, whose literals are so.
+pub(crate) fn behind_filter(filter: &Filter, offset: usize) -> Result<usize, NoValue>
+    ensures { Passes (HasValues (formula filter.now)) (length (node_bytes (formula filter.now)))
+        offset (FirstIn (formula filter.now)) result }
 {
     match filter {
-        Filter::Constant(_) | Filter::IsNull { .. } => true,
-        Filter::Compare { literal, .. } => is_logically_valid(literal),
-        Filter::In { literals, .. } => are_logically_valid(literals),
-        Filter::Between { lower, upper, .. } => {
-            is_logically_valid(lower) && is_logically_valid(upper)
+        Filter::Constant(_) => Ok(offset.saturating_add(1)),
+        Filter::Compare { literal, .. } => behind_literal(literal, offset.saturating_add(9)),
+        Filter::IsNull { .. } => Ok(offset.saturating_add(9)),
+        Filter::In { literals, .. } => behind_literals(literals, offset.saturating_add(17)),
+        Filter::Between { lower, upper, .. } => behind_two(lower, upper, offset.saturating_add(9)),
+        Filter::StartsWith { prefix, .. } => behind_literal(prefix, offset.saturating_add(9)),
+        Filter::And(left, right) => {
+            let middle = behind_filter(left, offset.saturating_add(1))?;
+            behind_filter(right, middle)
         }
-        Filter::StartsWith { prefix, .. } => is_logically_valid(prefix),
-        Filter::And(left, right) => has_values(left) && has_values(right),
-        Filter::Or(one, other) => has_values(one) && has_values(other),
-        Filter::Not(inner) => has_values(inner),
+        Filter::Or(one, other) => {
+            let middle = behind_filter(one, offset.saturating_add(1))?;
+            behind_filter(other, middle)
+        }
+        Filter::Not(inner) => behind_filter(inner, offset.saturating_add(1)),
     }
 }

@@ -10,6 +10,7 @@ use Rattle.column_filters.specs.declared.errors.ZoneError.{ZoneError}
 use Rattle.filter_encoding.specs.Answers.{HasNoValue, IsFirstWrong, IsEncoding}
 use Rattle.filter_encoding.specs.Encoding.{EncodingsAreApart, HasEncoding, HasValues, IsFormed, IsLiteral, IsVersion, Nests, Prepared, encoding_in, prepared, version_of}
 use Rattle.filter_encoding.proofs.EncodingLaws.{written_version}
+use Rattle.filter_encoding.proofs.NoValueLaws.{none_in}
 use Rattle.filter_encoding.specs.declared.error.FilterEncodingError.{FilterEncodingError}
 use Rattle.filter_encoding.specs.declared.error.FilterEncodingError.TheVariants.{BadBytes, NoEncoding, NotAValue, OutOfMemory}
 use Rattle.filter_encoding.specs.declared.prepared.PreparedFilter.{PreparedFilter}
@@ -26,7 +27,7 @@ use Rattle.vortex_c.specs.declared.status.TheConstants.{NO_MEMORY}
 
 -- why bytes are not read
 pub unread : (n : ℕ) (bytes : List ℕ) (e : FilterEncodingError) → (e ≡ OutOfMemory) ⊎ (((place : ℕ) × (e ≡ BadBytes place)) ⊎ ((place : ℕ) × (e ≡ NotAValue place))) → ((place : ℕ) → e ≡ BadBytes place → IsFirstWrong (IsEncoding n) bytes place)
-    → ((place : ℕ) → e ≡ NotAValue place → HasNoValue n bytes) → IsUnread n bytes e
+    → ((place : ℕ) → e ≡ NotAValue place → HasNoValue n bytes place) → IsUnread n bytes e
 unread n bytes e (inl none) bad no_value = subst (IsUnread n bytes) (sym none) tt
 unread n bytes e (inr (inl wrong)) bad no_value = subst (IsUnread n bytes) (sym wrong.1) (bad wrong.0 wrong.1)
 unread n bytes e (inr (inr wrong)) bad no_value = subst (IsUnread n bytes) (sym wrong.1) (no_value wrong.0 wrong.1)
@@ -93,7 +94,7 @@ module _ (law : EncodingsAreApart) (n : ℕ) (words : List ℕ) (named : List Na
       absurd (u.none (record { version = version_of p; value = p; is_version = written_version p; is_one = record { types = formed.types; filter = deeper h.filter (encoding_depth n) (encoding_depth m) deep formed.filter }; is = h.is }))
   never_bad m l (NotAValue offset) u =
       let q = u.encoded in
-      absurd (u.none (subst (λ (p : Prepared). HasValues p.filter) (sym (one_filter (encoding_depth m) q.version q.value q.is_one q.is)) h.written.values))
+      absurd (none_in q.value.filter u.first.0 u.first.2 (subst (λ (p : Prepared). HasValues p.filter) (sym (one_filter (encoding_depth m) q.version q.value q.is_one q.is)) h.written.values))
 
   pub all_of_words : AreOfWords n words named bytes h
   all_of_words = record {

@@ -34,7 +34,7 @@ abbrev pub IsUnread : ℕ → List ℕ → FilterEncodingError → Type 0
 IsUnread n bytes OutOfMemory = Unit {0}
 IsUnread n bytes NoEncoding = ⊥
 IsUnread n bytes (BadBytes place) = IsFirstWrong (IsEncoding n) bytes place
-IsUnread n bytes (NotAValue place) = HasNoValue n bytes
+IsUnread n bytes (NotAValue place) = HasNoValue n bytes place
 
 abbrev pub status_of_encoding_fault : FilterEncodingError → ℕ
 status_of_encoding_fault OutOfMemory = NO_MEMORY

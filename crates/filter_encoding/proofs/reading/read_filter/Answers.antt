@@ -5,19 +5,19 @@ use Rattle.filter_encoding.proofs.EncodingLaws.{bad_bad, bad_whole, ok_bad, ok_n
 use Rattle.filter_encoding.proofs.reading.read_filter.Goals as goal
 
 pub returns-in-Ok-clause-read : goal.returns-in-Ok-clause-read
-returns-in-Ok-clause-read c = ok_read c.args.depth c.in-Ok.prepared c.args.bytes.now (left c.read_encoding-answer.new.reader) (length c.read_encoding-answer.new.reader.rest.now) c.saturating_sub-taken.result c.saturating_sub-no_value.result refl c.saturating_sub-taken.ensures c.in-Ok.ensures.read c.whole_or_bad.result c.whole_or_bad.ensures
+returns-in-Ok-clause-read c = ok_read c.args.depth c.in-Ok.prepared c.args.bytes.now (left c.read_encoding-answer.new.reader) (length c.read_encoding-answer.new.reader.rest.now) c.saturating_sub-taken.result refl c.saturating_sub-taken.ensures c.whole_or_bad.ensures.bound c.in-Ok.ensures.read c.whole_or_bad.result c.whole_or_bad.ensures.answer
 
 pub returns-in-Ok-clause-whole : goal.returns-in-Ok-clause-whole
-returns-in-Ok-clause-whole c = ok_whole c.args.depth c.in-Ok.prepared c.args.bytes.now (left c.read_encoding-answer.new.reader) (length c.read_encoding-answer.new.reader.rest.now) c.saturating_sub-taken.result c.saturating_sub-no_value.result refl c.saturating_sub-taken.ensures c.in-Ok.ensures.read c.whole_or_bad.result c.whole_or_bad.ensures
+returns-in-Ok-clause-whole c = ok_whole c.args.depth c.in-Ok.prepared c.args.bytes.now (left c.read_encoding-answer.new.reader) (length c.read_encoding-answer.new.reader.rest.now) c.saturating_sub-taken.result refl c.saturating_sub-taken.ensures c.whole_or_bad.ensures.bound c.in-Ok.ensures.read c.whole_or_bad.result c.whole_or_bad.ensures.answer
 
 pub returns-in-Ok-clause-no_value : goal.returns-in-Ok-clause-no_value
-returns-in-Ok-clause-no_value c = ok_no_value c.args.depth c.in-Ok.prepared c.args.bytes.now (left c.read_encoding-answer.new.reader) (length c.read_encoding-answer.new.reader.rest.now) c.saturating_sub-taken.result c.saturating_sub-no_value.result refl c.saturating_sub-taken.ensures c.in-Ok.ensures.read c.whole_or_bad.result c.whole_or_bad.ensures
+returns-in-Ok-clause-no_value c = ok_no_value c.args.depth c.in-Ok.prepared c.args.bytes.now (left c.read_encoding-answer.new.reader) (length c.read_encoding-answer.new.reader.rest.now) c.saturating_sub-taken.result refl c.saturating_sub-taken.ensures c.whole_or_bad.ensures.bound c.in-Ok.ensures.read c.whole_or_bad.result c.whole_or_bad.ensures.answer
 
 pub returns-in-Ok-clause-bad : goal.returns-in-Ok-clause-bad
-returns-in-Ok-clause-bad c = ok_bad c.args.depth c.in-Ok.prepared c.args.bytes.now (left c.read_encoding-answer.new.reader) (length c.read_encoding-answer.new.reader.rest.now) c.saturating_sub-taken.result c.saturating_sub-no_value.result refl c.saturating_sub-taken.ensures c.in-Ok.ensures.read c.whole_or_bad.result c.whole_or_bad.ensures
+returns-in-Ok-clause-bad c = ok_bad c.args.depth c.in-Ok.prepared c.args.bytes.now (left c.read_encoding-answer.new.reader) (length c.read_encoding-answer.new.reader.rest.now) c.saturating_sub-taken.result refl c.saturating_sub-taken.ensures c.whole_or_bad.ensures.bound c.in-Ok.ensures.read c.whole_or_bad.result c.whole_or_bad.ensures.answer
 
 pub returns-in-Ok-clause-refused : goal.returns-in-Ok-clause-refused
-returns-in-Ok-clause-refused c = ok_refused c.args.depth c.in-Ok.prepared c.args.bytes.now (left c.read_encoding-answer.new.reader) (length c.read_encoding-answer.new.reader.rest.now) c.saturating_sub-taken.result c.saturating_sub-no_value.result refl c.saturating_sub-taken.ensures c.in-Ok.ensures.read c.whole_or_bad.result c.whole_or_bad.ensures
+returns-in-Ok-clause-refused c = ok_refused c.args.depth c.in-Ok.prepared c.args.bytes.now (left c.read_encoding-answer.new.reader) (length c.read_encoding-answer.new.reader.rest.now) c.saturating_sub-taken.result refl c.saturating_sub-taken.ensures c.whole_or_bad.ensures.bound c.in-Ok.ensures.read c.whole_or_bad.result c.whole_or_bad.ensures.answer
 
 pub returns-in-Err-Bad-clause-whole : goal.returns-in-Err-Bad-clause-whole
 returns-in-Err-Bad-clause-whole c =
