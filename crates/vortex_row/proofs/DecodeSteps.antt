@@ -1,9 +1,9 @@
 -- Steps from the reading of a value to the answer for bytes.
 use Rattle.std.proofs.Common.{◌≡◌, ◌≢◌, ℕ, suc, ◌+◌, ◌-◌, ◌≤◌, ◌⊎◌, inl, inr, Bool, true, false, List, [], ◌∷◌, ◌++◌, length, length-append, take, drop, get_or, refl, sym, subst, ap, ap₂, ◌∙◌, append_assoc, append-nil, arith}
 use Rattle.std.specs.Prelude.{Result, Ok, Err, MatchResult}
-use Rattle.vortex_dtype.specs.TypeTree.{TypeTree, null_type, bool_type, integer_type, utf8_type, binary_type, list_type, fixed_size_list_type, map_type, struct_type, union_type, variant_type, extension_type, TypeTrees, no_types, type_then, IsNullable}
+use Rattle.vortex_dtype.specs.TypeTree.{TypeTree, IsNullable}
 use Rattle.vortex_value.specs.Casts.{OneValue}
-use Rattle.vortex_value.specs.TypesWithin.{HasNoVariant, HaveNoVariant, UnionsHaveVariants, AllHaveVariants}
+use Rattle.vortex_value.specs.TypesWithin.{HasNoVariant}
 use Rattle.vortex_value.specs.Validity.{Valid}
 use Rattle.vortex_value.specs.Values.Content.{content}
 use Rattle.vortex_value.specs.Values.RawTree.{RawTree, absent, raw_bool, raw_integer, raw_text, raw_bytes, raw_tuple, raw_union, raw_variant, is_absent}
@@ -14,8 +14,7 @@ use Rattle.vortex_row.specs.Decoded.{BeginsWithKey, DecodesInto, DecodesTo, IsDe
 use Rattle.vortex_row.specs.Held.{AreBytes}
 use Rattle.vortex_row.specs.Keys.{inverted, key}
 use Rattle.vortex_row.specs.ColumnReading.{HasColumn, IsColumnKey, IsRefusal}
-use Rattle.vortex_row.specs.Reading.{AllHaveValues, BeginAlike, HasRead, HasValues, IsInverted, IsKey, IsKeyed, IsPlain, IsPresent, IsStuck}
-use Rattle.vortex_cells.specs.Variants.{HasByteIds, HaveByteIds}
+use Rattle.vortex_row.specs.Reading.{BeginAlike, HasRead, IsInverted, IsKey, IsPlain, IsPresent, IsStuck}
 use Rattle.vortex_row.specs.declared.error.RowError.{RowError}
 use Rattle.vortex_row.specs.declared.error.RowError.TheVariants.{BadKey, OutOfMemory}
 use Rattle.vortex_row.specs.declared.options.SortOptions.{SortOptions}
@@ -108,32 +107,32 @@ column-key o t q h = record {
   is = h.is ∙ ap (inverted o.descending) h.is_one.is ∙ sym (key_with-present o h.is_one.value h.is_one.plain.kind.present);
 }
 
-pub column-stuck : (has : Type 0) (o : SortOptions) (t : TypeTree) (bytes now : List ℕ) → AreBytes bytes → (IsNullable t → (bs : List ℕ) → bytes ≢ null_byte o.nulls_first ∷ bs)
-    → IsStuck has (IsKey (IsPresent t)) (inverted o.descending bytes) now → IsStuck has (IsColumnKey o t) bytes (inverted o.descending now)
-column-stuck has o t bytes now h other stuck =
+pub column-stuck : (o : SortOptions) (t : TypeTree) (bytes now : List ℕ) → AreBytes bytes → (IsNullable t → (bs : List ℕ) → bytes ≢ null_byte o.nulls_first ∷ bs)
+    → IsStuck (IsKey (IsPresent t)) (inverted o.descending bytes) now → IsStuck (IsColumnKey o t) bytes (inverted o.descending now)
+column-stuck o t bytes now h other stuck =
     let d = o.descending in
-    let turned = stuck-inverted has d (IsKey (IsPresent t)) (inverted d bytes) now (λ s k. subst AreBytes (sym k.is) (key-bytes (content k.value) k.plain.held)) (inverted-are_bytes d bytes h) stuck in
-    let here = subst (λ bs. IsStuck has (IsInverted d (IsKey (IsPresent t))) bs (inverted d now)) (inverted-twice d bytes h) turned in
-    stuck-within has has (IsInverted d (IsKey (IsPresent t))) (IsColumnKey o t) bytes (inverted d now) (λ a. a)
+    let turned = stuck-inverted d (IsKey (IsPresent t)) (inverted d bytes) now (λ s k. subst AreBytes (sym k.is) (key-bytes (content k.value) k.plain.held)) (inverted-are_bytes d bytes h) stuck in
+    let here = subst (λ bs. IsStuck (IsInverted d (IsKey (IsPresent t))) bs (inverted d now)) (inverted-twice d bytes h) turned in
+    stuck-within (IsInverted d (IsKey (IsPresent t))) (IsColumnKey o t) bytes (inverted d now)
     (record {
-      extend = λ q k a. ([], subst (IsColumnKey o t) (sym (append-nil q)) (column-key o t q k));
+      extend = λ q k. ([], subst (IsColumnKey o t) (sym (append-nil q)) (column-key o t q k));
       front = λ s zs rest k alike e. null-or-value o t bytes other s zs rest k.value k.plain k.is alike e;
     }) here
 
 -- what is left is what comes from an offset on
-pub place-of : (has : Type 0) (Is : List ℕ → Type 0) (bytes now : List ℕ) (left place : ℕ) → IsStuck has Is bytes now → length now ≡ left → place ≡ length bytes - left
-    → (place ≤ length bytes) × IsStuck has Is bytes (drop place bytes)
-place-of has Is bytes now left place stuck rest is =
+pub place-of : (Is : List ℕ → Type 0) (bytes now : List ℕ) (left place : ℕ) → IsStuck Is bytes now → length now ≡ left → place ≡ length bytes - left
+    → (place ≤ length bytes) × IsStuck Is bytes (drop place bytes)
+place-of Is bytes now left place stuck rest is =
     let long : length bytes ≡ length stuck.done + length now = ap length stuck.split ∙ length-append stuck.done now in
     let count : place ≡ length stuck.done = omega arith in
     let dropped : drop place bytes ≡ now = ap₂ (λ m bs. drop m bs) count stuck.split ∙ drop-front stuck.done now in
-    (omega arith, subst (IsStuck has Is bytes) (sym dropped) stuck)
+    (omega arith, subst (IsStuck Is bytes) (sym dropped) stuck)
 
-pub column-refused : (has : Type 0) (o : SortOptions) (t : TypeTree) (bytes now : List ℕ) (left place : ℕ) → AreBytes bytes → (IsNullable t → (bs : List ℕ) → bytes ≢ null_byte o.nulls_first ∷ bs)
-    → IsStuck has (IsKey (IsPresent t)) (inverted o.descending bytes) now → length now ≡ left → place ≡ length bytes - left → IsRefusal has (IsColumnKey o t) bytes (BadKey place)
-column-refused has o t bytes now left place h other stuck rest is =
-    let here = column-stuck has o t bytes now h other stuck in
-    let at = place-of has (IsColumnKey o t) bytes (inverted o.descending now) left place here (inverted-length o.descending now ∙ rest) is in
+pub column-refused : (o : SortOptions) (t : TypeTree) (bytes now : List ℕ) (left place : ℕ) → AreBytes bytes → (IsNullable t → (bs : List ℕ) → bytes ≢ null_byte o.nulls_first ∷ bs)
+    → IsStuck (IsKey (IsPresent t)) (inverted o.descending bytes) now → length now ≡ left → place ≡ length bytes - left → IsRefusal (IsColumnKey o t) bytes (BadKey place)
+column-refused o t bytes now left place h other stuck rest is =
+    let here = column-stuck o t bytes now h other stuck in
+    let at = place-of (IsColumnKey o t) bytes (inverted o.descending now) left place here (inverted-length o.descending now ∙ rest) is in
     inr (place, refl, at.0, at.1)
 
 -- the answers
@@ -151,21 +150,21 @@ bad-before : (IsOne : List ℕ → Type 0) (done : List ℕ) (place : ℕ) → p
 bad-before IsOne done place count (inl none) = inl (count ∙ ap length none)
 bad-before IsOne done place count (inr h) = inr (record { key = done ++ h.0; more = h.0; rest = []; is_one = h.1; is = sym (append-nil (done ++ h.0)) })
 
-pub first-bad : (IsOne Is : List ℕ → Type 0) (has : Type 0) (bytes : List ℕ) (place : ℕ) → Alike IsOne Is → has → place ≤ length bytes → IsStuck has Is bytes (drop place bytes)
+pub first-bad : (IsOne Is : List ℕ → Type 0) (bytes : List ℕ) (place : ℕ) → Alike IsOne Is → place ≤ length bytes → IsStuck Is bytes (drop place bytes)
     → IsFirstBad IsOne bytes place
-first-bad IsOne Is has bytes place same holds within stuck =
+first-bad IsOne Is bytes place same within stuck =
     let done : stuck.done ≡ take place bytes = same_ends stuck.done (take place bytes) (drop place bytes) (sym stuck.split ∙ take-then place bytes) in
     let count : place ≡ length stuck.done = sym (take-length place bytes within) ∙ ap length (sym done) in
     record {
       within = within;
-      before = subst (λ ds. (place ≡ 0) ⊎ MayBegin IsOne ds) done (bad-before IsOne stuck.done place count (to_ones (stuck.begins holds)));
+      before = subst (λ ds. (place ≡ 0) ⊎ MayBegin IsOne ds) done (bad-before IsOne stuck.done place count (to_ones stuck.begins));
       bad = λ less m.
           let first : drop place bytes ≡ get_or bytes place 0 ∷ drop (suc place) bytes = at-once place bytes less in
           let alike : BeginAlike (drop place bytes) (get_or bytes place 0 ∷ m.more) = subst (λ xs. BeginAlike xs (get_or bytes place 0 ∷ m.more)) (sym first) refl in
           let e : stuck.done ++ get_or bytes place 0 ∷ m.more ≡ m.key ++ m.rest =
           ap (λ ds. ds ++ get_or bytes place 0 ∷ m.more) done ∙ sym (append_assoc (take place bytes) (get_or bytes place 0 ∷ []) m.more) ∙ ap (λ ds. ds ++ m.more) (sym (take-more place bytes less)) ∙ m.is in
           stuck.none m.key (get_or bytes place 0 ∷ m.more) m.rest (same.0 m.key m.is_one) alike e;
-      no_key = λ k rest one e. not-stuck has Is bytes (drop place bytes) k rest stuck (same.0 k one) e;
+      no_key = λ k rest one e. not-stuck Is bytes (drop place bytes) k rest stuck (same.0 k one) e;
     }
   where
     to_ones : (stuck.done ≡ []) ⊎ ((more : List ℕ) × Is (stuck.done ++ more)) → (stuck.done ≡ []) ⊎ ((more : List ℕ) × IsOne (stuck.done ++ more))
@@ -181,28 +180,6 @@ keys-alike o t n = (
   λ s h. record { value = h.value; begins = record { value = record { valid = h.plain.kind; held = h.plain.held }; is = h.is ∙ sym (append-nil (key_with o (content h.value))) } },
 )
 
--- a type without variants, each of whose unions has one with an id that is a byte, has values
-mutual
-  pub has-values : (t : TypeTree) → HasNoVariant t → HasByteIds t → UnionsHaveVariants t → HasValues t
-  has-values (union_type names (type_then t ts) (id ∷ ids) n) h k u = (k.0, has-values t h.0 k.1.0 u.0, have-values ts h.1 k.1.1 u.1)
-  has-values (union_type names no_types ids n) h k u = absurd u
-  has-values (union_type names (type_then t ts) [] n) h k u = absurd u
-  has-values (variant_type n) h k u = h
-  has-values (list_type e n) h k u = has-values e h k u
-  has-values (fixed_size_list_type e size n) h k u = has-values e h k u
-  has-values (map_type a b sorted n) h k u = (has-values a h.0 k.0 u.0, has-values b h.1 k.1 u.1)
-  has-values (struct_type names ts n) h k u = have-values ts h k u
-  has-values (extension_type id metadata t) h k u = has-values t h k u
-  has-values null_type h k u = tt
-  has-values (bool_type n) h k u = tt
-  has-values (integer_type a n) h k u = tt
-  has-values (utf8_type n) h k u = tt
-  has-values (binary_type n) h k u = tt
-
-  pub have-values : (ts : TypeTrees) → HaveNoVariant ts → HaveByteIds ts → AllHaveVariants ts → AllHaveValues ts
-  have-values no_types h k u = tt
-  have-values (type_then t ts) h k u = (has-values t h.0 k.0 u.0, have-values ts h.1 k.1 u.1)
-
 -- the answer to bytes that begin with a key is the value
 same-column : (o : SortOptions) (t : TypeTree) (v w : RawTree) (bytes rest : List ℕ) (n : ℕ) → OneValue → HasColumn o t v bytes n → IsPlain (Valid t) w → bytes ≡ key_with o (content w) ++ rest → (v ≡ w) × (n ≡ length (key_with o (content w)))
 same-column o t v w bytes rest n one h plain e =
@@ -215,10 +192,10 @@ whole-ok o t bytes x n one none typed h v rest begins =
     let same = same-column o t (scalar_raw x) v bytes rest n one h (a_plain t v none begins.value) begins.is in
     (record { typed = typed; value = same.0 }, same.1)
 
-pub whole-bad : (has : Type 0) (o : SortOptions) (t : TypeTree) (bytes : List ℕ) (e : RowError) → HasNoVariant t → IsRefusal has (IsColumnKey o t) bytes e → (v : RawTree) (rest : List ℕ) → BeginsWithKey o t bytes v rest → e ≡ OutOfMemory
-whole-bad has o t bytes e none (inl out) v rest begins = out
-whole-bad has o t bytes e none (inr (place, is, within, stuck)) v rest begins =
-    absurd (not-stuck has (IsColumnKey o t) bytes (drop place bytes) (key_with o (content v)) rest stuck (record { value = v; plain = a_plain t v none begins.value; is = refl }) begins.is)
+pub whole-bad : (o : SortOptions) (t : TypeTree) (bytes : List ℕ) (e : RowError) → HasNoVariant t → IsRefusal (IsColumnKey o t) bytes e → (v : RawTree) (rest : List ℕ) → BeginsWithKey o t bytes v rest → e ≡ OutOfMemory
+whole-bad o t bytes e none (inl out) v rest begins = out
+whole-bad o t bytes e none (inr (place, is, within, stuck)) v rest begins =
+    absurd (not-stuck (IsColumnKey o t) bytes (drop place bytes) (key_with o (content v)) rest stuck (record { value = v; plain = a_plain t v none begins.value; is = refl }) begins.is)
 
 pub decoded-ok : (o : SortOptions) (t : TypeTree) (bytes : List ℕ) (x : Scalar) (n : ℕ) → scalar_type x ≡ t → HasColumn o t (scalar_raw x) bytes n → IsDecoded o t bytes x n
 decoded-ok o t bytes x n typed h = record {
@@ -228,38 +205,38 @@ decoded-ok o t bytes x n typed h = record {
   count = h.count;
 }
 
-pub bad-place : (o : SortOptions) (t : TypeTree) (bytes : List ℕ) (e : RowError) → HasNoVariant t → HasByteIds t → IsRefusal (IsKeyed t) (IsColumnKey o t) bytes e → (place : ℕ) → e ≡ BadKey place
+pub bad-place : (o : SortOptions) (t : TypeTree) (bytes : List ℕ) (e : RowError) → HasNoVariant t → IsRefusal (IsColumnKey o t) bytes e → (place : ℕ) → e ≡ BadKey place
     → IsFirstBad (IsKeyOf o t) bytes place
-bad-place o t bytes e none ids (inl out) place is = absurd (cc)
-bad-place o t bytes e none ids (inr (at, is, within, stuck)) place is_at =
+bad-place o t bytes e none (inl out) place is = absurd (cc)
+bad-place o t bytes e none (inr (at, is, within, stuck)) place is_at =
     let same : at ≡ place = cc in
-    subst (IsFirstBad (IsKeyOf o t) bytes) same (first-bad (IsKeyOf o t) (IsColumnKey o t) (IsKeyed t) bytes at (keys-alike o t none) (none, ids) within stuck)
+    subst (IsFirstBad (IsKeyOf o t) bytes) same (first-bad (IsKeyOf o t) (IsColumnKey o t) bytes at (keys-alike o t none) within stuck)
 
 pub answers-whole : (o : SortOptions) (t : TypeTree) (bytes : List ℕ) (r : Result (Scalar × ℕ) RowError) → OneValue
-    → MatchResult r (λ p. (scalar_type p.0 ≡ t) × HasColumn o t (scalar_raw p.0) bytes p.1) (λ e. IsRefusal (IsKeyed t) (IsColumnKey o t) bytes e) → (v : RawTree) (rest : List ℕ) → HasNoVariant t → BeginsWithKey o t bytes v rest
+    → MatchResult r (λ p. (scalar_type p.0 ≡ t) × HasColumn o t (scalar_raw p.0) bytes p.1) (λ e. IsRefusal (IsColumnKey o t) bytes e) → (v : RawTree) (rest : List ℕ) → HasNoVariant t → BeginsWithKey o t bytes v rest
     → DecodesTo o t v r
 answers-whole o t bytes (Ok p) one h v rest none begins = whole-ok o t bytes p.0 p.1 one none h.0 h.1 v rest begins
-answers-whole o t bytes (Err e) one h v rest none begins = whole-bad (IsKeyed t) o t bytes e none h v rest begins
+answers-whole o t bytes (Err e) one h v rest none begins = whole-bad o t bytes e none h v rest begins
 
-pub answers-bad : (o : SortOptions) (t : TypeTree) (bytes : List ℕ) (r : Result (Scalar × ℕ) RowError) → HasNoVariant t → HasByteIds t
-    → MatchResult r (λ p. (scalar_type p.0 ≡ t) × HasColumn o t (scalar_raw p.0) bytes p.1) (λ e. IsRefusal (IsKeyed t) (IsColumnKey o t) bytes e) → (place : ℕ) → r ≡ Err (BadKey place)
+pub answers-bad : (o : SortOptions) (t : TypeTree) (bytes : List ℕ) (r : Result (Scalar × ℕ) RowError) → HasNoVariant t
+    → MatchResult r (λ p. (scalar_type p.0 ≡ t) × HasColumn o t (scalar_raw p.0) bytes p.1) (λ e. IsRefusal (IsColumnKey o t) bytes e) → (place : ℕ) → r ≡ Err (BadKey place)
     → IsFirstBad (IsKeyOf o t) bytes place
-answers-bad o t bytes (Ok p) none ids h place e = absurd (cc)
-answers-bad o t bytes (Err e) none ids h place is = let same : e ≡ BadKey place = cc in bad-place o t bytes e none ids h place same
+answers-bad o t bytes (Ok p) none h place e = absurd (cc)
+answers-bad o t bytes (Err e) none h place is = let same : e ≡ BadKey place = cc in bad-place o t bytes e none h place same
 
 -- the same of a scalar that stands already
 
 pub into-whole : (o : SortOptions) (t : TypeTree) (bytes : List ℕ) (x : Scalar) (r : Result ℕ RowError) → OneValue
-    → MatchResult r (λ n. (scalar_type x ≡ t) × HasColumn o t (scalar_raw x) bytes n) (λ e. IsRefusal (IsKeyed t) (IsColumnKey o t) bytes e) → (v : RawTree) (rest : List ℕ) → HasNoVariant t → BeginsWithKey o t bytes v rest
+    → MatchResult r (λ n. (scalar_type x ≡ t) × HasColumn o t (scalar_raw x) bytes n) (λ e. IsRefusal (IsColumnKey o t) bytes e) → (v : RawTree) (rest : List ℕ) → HasNoVariant t → BeginsWithKey o t bytes v rest
     → DecodesInto o t v x r
 into-whole o t bytes x (Ok n) one h v rest none begins = whole-ok o t bytes x n one none h.0 h.1 v rest begins
-into-whole o t bytes x (Err e) one h v rest none begins = whole-bad (IsKeyed t) o t bytes e none h v rest begins
+into-whole o t bytes x (Err e) one h v rest none begins = whole-bad o t bytes e none h v rest begins
 
-pub into-bad : (o : SortOptions) (t : TypeTree) (bytes : List ℕ) (x : Scalar) (r : Result ℕ RowError) → HasNoVariant t → HasByteIds t
-    → MatchResult r (λ n. (scalar_type x ≡ t) × HasColumn o t (scalar_raw x) bytes n) (λ e. IsRefusal (IsKeyed t) (IsColumnKey o t) bytes e) → (place : ℕ) → r ≡ Err (BadKey place)
+pub into-bad : (o : SortOptions) (t : TypeTree) (bytes : List ℕ) (x : Scalar) (r : Result ℕ RowError) → HasNoVariant t
+    → MatchResult r (λ n. (scalar_type x ≡ t) × HasColumn o t (scalar_raw x) bytes n) (λ e. IsRefusal (IsColumnKey o t) bytes e) → (place : ℕ) → r ≡ Err (BadKey place)
     → IsFirstBad (IsKeyOf o t) bytes place
-into-bad o t bytes x (Ok n) none ids h place e = absurd (cc)
-into-bad o t bytes x (Err e) none ids h place is = let same : e ≡ BadKey place = cc in bad-place o t bytes e none ids h place same
+into-bad o t bytes x (Ok n) none h place e = absurd (cc)
+into-bad o t bytes x (Err e) none h place is = let same : e ≡ BadKey place = cc in bad-place o t bytes e none h place same
 
 pub ruleset nulls = (column-null, other-null, no-null_there)
 

@@ -36,9 +36,9 @@ no_truth b (x ∷ old) [] rest h k alike e = alike
 no_truth false (x ∷ old) (z ∷ zs) rest h k alike e = let first : z ≡ 2 = cc in h old (ap (λ c. c ∷ old) (alike ∙ first))
 no_truth true (x ∷ old) (z ∷ zs) rest h k alike e = let first : z ≡ 3 = cc in k old (ap (λ c. c ∷ old) (alike ∙ first))
 
-pub truth-none : (old mid now : List ℕ) → mid ≡ old → now ≡ mid → ((bs : List ℕ) → old ≢ 2 ∷ bs) → ((bs : List ℕ) → mid ≢ 3 ∷ bs) → IsStuck (Unit {0}) (IsKey (IsPresent (bool_type NonNullable))) old now
+pub truth-none : (old mid now : List ℕ) → mid ≡ old → now ≡ mid → ((bs : List ℕ) → old ≢ 2 ∷ bs) → ((bs : List ℕ) → mid ≢ 3 ∷ bs) → IsStuck (IsKey (IsPresent (bool_type NonNullable))) old now
 truth-none old mid now same again h k =
-    subst (λ xs. IsStuck (Unit {0}) (IsKey (IsPresent (bool_type NonNullable))) old xs) (sym (again ∙ same)) (stuck-here (Unit {0}) (IsKey (IsPresent (bool_type NonNullable))) old none)
+    subst (λ xs. IsStuck (IsKey (IsPresent (bool_type NonNullable))) old xs) (sym (again ∙ same)) (stuck-here (IsKey (IsPresent (bool_type NonNullable))) old none)
   where
     none : (s zs rest : List ℕ) → IsKey (IsPresent (bool_type NonNullable)) s → BeginAlike old zs → ¬ (zs ≡ s ++ rest)
     none s zs rest p alike e =
@@ -77,18 +77,18 @@ string-opens = record {
   split = string-split;
 }
 
-pub text-none : (old now : List ℕ) → now ≡ old → ((bs : List ℕ) → old ≢ 21 ∷ bs) → IsStuck (Unit {0}) (IsKey (IsPresent (utf8_type NonNullable))) old now
-text-none old now same other = opens-none (Unit {0}) (utf8_type NonNullable) 21 (IsEscaped IsUtf8) old now text-opens same other
+pub text-none : (old now : List ℕ) → now ≡ old → ((bs : List ℕ) → old ≢ 21 ∷ bs) → IsStuck (IsKey (IsPresent (utf8_type NonNullable))) old now
+text-none old now same other = opens-none (utf8_type NonNullable) 21 (IsEscaped IsUtf8) old now text-opens same other
 
-pub string-none : (old now : List ℕ) → now ≡ old → ((bs : List ℕ) → old ≢ 22 ∷ bs) → IsStuck (Unit {0}) (IsKey (IsPresent (binary_type NonNullable))) old now
-string-none old now same other = opens-none (Unit {0}) (binary_type NonNullable) 22 (IsEscaped IsAny) old now string-opens same other
+pub string-none : (old now : List ℕ) → now ≡ old → ((bs : List ℕ) → old ≢ 22 ∷ bs) → IsStuck (IsKey (IsPresent (binary_type NonNullable))) old now
+string-none old now same other = opens-none (binary_type NonNullable) 22 (IsEscaped IsAny) old now string-opens same other
 
-pub text-stuck : (old mid now : List ℕ) → old ≡ 21 ∷ mid → IsStuck (Unit {0}) (IsEscaped IsUtf8) mid now → IsStuck (Unit {0}) (IsKey (IsPresent (utf8_type NonNullable))) old now
+pub text-stuck : (old mid now : List ℕ) → old ≡ 21 ∷ mid → IsStuck (IsEscaped IsUtf8) mid now → IsStuck (IsKey (IsPresent (utf8_type NonNullable))) old now
 text-stuck old mid now e stuck =
-    opens-stuck (Unit {0}) (utf8_type NonNullable) 21 (IsEscaped IsUtf8) old mid now text-opens e (λ u. (0 ∷ [], continue-end IsUtf8 IsUtf8-nil)) stuck
+    opens-stuck (utf8_type NonNullable) 21 (IsEscaped IsUtf8) old mid now text-opens e (0 ∷ [], continue-end IsUtf8 IsUtf8-nil) stuck
 
-pub string-stuck : (old mid now : List ℕ) → old ≡ 22 ∷ mid → IsStuck (Unit {0}) (IsEscaped IsAny) mid now → IsStuck (Unit {0}) (IsKey (IsPresent (binary_type NonNullable))) old now
-string-stuck old mid now e stuck = opens-stuck (Unit {0}) (binary_type NonNullable) 22 (IsEscaped IsAny) old mid now string-opens e (λ u. some-escaped) stuck
+pub string-stuck : (old mid now : List ℕ) → old ≡ 22 ∷ mid → IsStuck (IsEscaped IsAny) mid now → IsStuck (IsKey (IsPresent (binary_type NonNullable))) old now
+string-stuck old mid now e stuck = opens-stuck (binary_type NonNullable) 22 (IsEscaped IsAny) old mid now string-opens e some-escaped stuck
 
 pub text-found : (bs old mid now : List ℕ) → old ≡ 21 ∷ mid → HasString IsUtf8 bs mid now → HasRead (IsPresent (utf8_type NonNullable)) (raw_text bs) old now
 text-found bs old mid now e h = record {

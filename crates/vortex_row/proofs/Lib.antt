@@ -4,6 +4,7 @@ pub mod ColumnLaws
 pub mod DecodeSteps
 pub mod EncodeSteps
 pub mod FewBytes
+pub mod InhabitedSteps
 pub mod KeyLaws
 pub mod KeySteps
 pub mod LeafSteps
@@ -17,11 +18,11 @@ pub mod OrderLaws
 pub mod PartSteps
 pub mod PlaceLaws
 pub mod ReaderSteps
+pub mod RefusalSteps
 pub mod RowDecodeSteps
 pub mod RowSteps
 pub mod ShiftSteps
 pub mod SlotSteps
-pub mod SparseSteps
 pub mod StringLaws
 pub mod StringSteps
 pub mod StuckLaws

@@ -142,10 +142,10 @@ none-down k above below head limits h never s zs rest m e =
 
 -- the whole number
 
-pub number-stuck : (k : PType) (head : ℕ) (below : Bool) (width limit : ℕ) (old mid now : List ℕ) → GoesOnAs k head below width limit → old ≡ head ∷ mid → IsStuck (Unit {0}) (IsInverted below (IsMagnitude width limit)) mid now
-    → IsStuck (Unit {0}) (IsKey (IsPresent (integer_type k NonNullable))) old now
+pub number-stuck : (k : PType) (head : ℕ) (below : Bool) (width limit : ℕ) (old mid now : List ℕ) → GoesOnAs k head below width limit → old ≡ head ∷ mid → IsStuck (IsInverted below (IsMagnitude width limit)) mid now
+    → IsStuck (IsKey (IsPresent (integer_type k NonNullable))) old now
 number-stuck k head below width limit old mid now goes e stuck =
-    stuck-later (Unit {0}) (head ∷ []) (IsKey (IsPresent (integer_type k NonNullable))) (IsInverted below (IsMagnitude width limit)) old mid now goes.goes e (λ u. goes.some) stuck
+    stuck-later (head ∷ []) (IsKey (IsPresent (integer_type k NonNullable))) (IsInverted below (IsMagnitude width limit)) old mid now goes.goes e goes.some stuck
 
 pub number-read : (k : PType) (head : ℕ) (below : Bool) (width limit n : ℕ) (old mid now : List ℕ) → GoesOnAs k head below width limit → old ≡ head ∷ mid → HasDistance below width limit n mid now
     → HasRead (IsPresent (integer_type k NonNullable)) (raw_integer k (whole_at below n)) old now
@@ -162,15 +162,15 @@ pub number-away : (k : PType) (head : ℕ) (below : Bool) (width limit n : ℕ) 
 number-away k head below width limit zero mid now goes h e = let some = goes.away e in let count = h.count in let none : length (number_bytes 0) ≡ 0 = refl in absurd (omega arith)
 number-away k head below width limit (suc n) mid now goes h e = omega arith
 
-pub number-missing : (k : PType) (old : List ℕ) → old ≡ [] → IsStuck (Unit {0}) (IsKey (IsPresent (integer_type k NonNullable))) old old
-number-missing k old e = stuck-here (Unit {0}) (IsKey (IsPresent (integer_type k NonNullable))) old (none-end (IsKey (IsPresent (integer_type k NonNullable))) old e (λ h. no-empty_key (content h.value) h.is))
+pub number-missing : (k : PType) (old : List ℕ) → old ≡ [] → IsStuck (IsKey (IsPresent (integer_type k NonNullable))) old old
+number-missing k old e = stuck-here (IsKey (IsPresent (integer_type k NonNullable))) old (none-end (IsKey (IsPresent (integer_type k NonNullable))) old e (λ h. no-empty_key (content h.value) h.is))
   where
     no-empty_key : (c : Content) → ¬ ([] ≡ key c)
     no-empty_key c e = let head = begins c in let f = e ∙ head.is in cc
 
-pub number-none : (k : PType) (head : ℕ) (old more : List ℕ) → old ≡ head ∷ more → NoneBegins (IsKey (IsPresent (integer_type k NonNullable))) head → IsStuck (Unit {0}) (IsKey (IsPresent (integer_type k NonNullable))) old old
+pub number-none : (k : PType) (head : ℕ) (old more : List ℕ) → old ≡ head ∷ more → NoneBegins (IsKey (IsPresent (integer_type k NonNullable))) head → IsStuck (IsKey (IsPresent (integer_type k NonNullable))) old old
 number-none k head old more e none =
-    stuck-here (Unit {0}) (IsKey (IsPresent (integer_type k NonNullable))) old (none-byte (IsKey (IsPresent (integer_type k NonNullable))) head old more e none)
+    stuck-here (IsKey (IsPresent (integer_type k NonNullable))) old (none-byte (IsKey (IsPresent (integer_type k NonNullable))) head old more e none)
 
 -- a number from the first byte and a word
 

@@ -109,13 +109,13 @@ no-number width limit taken number b done more whole eight less fits is c count 
     omega arith
 
 pub number-bad : (width limit : ℕ) (xs : List ℕ) (taken number b : ℕ) → Began width limit xs taken number → width ≤ 8 → taken < width → limit < 2 ^ 64 → taken < length xs → b ≡ get_or xs taken 0
-    → (number * 256 + b ≡ 0) ⊎ (limit / 2 ^ (8 * (width - 1 - taken)) < number * 256 + b) → IsStuck (Unit {0}) (IsMagnitude width limit) xs (drop taken xs)
+    → (number * 256 + b ≡ 0) ⊎ (limit / 2 ^ (8 * (width - 1 - taken)) < number * 256 + b) → IsStuck (IsMagnitude width limit) xs (drop taken xs)
 number-bad width limit xs taken number b h eight less fits there is wrong =
     let count = take-length taken xs h.there in
     record {
       done = take taken xs;
       split = take-then taken xs;
-      begins = λ u. began-begins width limit taken number (take taken xs) (omega arith) eight h.bytes h.is h.canonical count h.small;
+      begins = began-begins width limit taken number (take taken xs) (omega arith) eight h.bytes h.is h.canonical count h.small;
       none = λ s zs rest m alike e.
           let wide = ap length m.is in
           let wide_enough = m.count in
@@ -127,13 +127,13 @@ number-bad width limit xs taken number b h eight less fits there is wrong =
     }
 
 pub number-ends : (width limit : ℕ) (xs : List ℕ) (taken number : ℕ) → Began width limit xs taken number → width ≤ 8 → taken < width → length xs ≤ taken
-    → IsStuck (Unit {0}) (IsMagnitude width limit) xs (drop taken xs)
+    → IsStuck (IsMagnitude width limit) xs (drop taken xs)
 number-ends width limit xs taken number h eight less past =
     let count = take-length taken xs h.there in
     record {
       done = take taken xs;
       split = take-then taken xs;
-      begins = λ u. began-begins width limit taken number (take taken xs) (omega arith) eight h.bytes h.is h.canonical count h.small;
+      begins = began-begins width limit taken number (take taken xs) (omega arith) eight h.bytes h.is h.canonical count h.small;
       none = λ s zs rest m alike e.
           let wide = ap length m.is in
           let wide_enough = m.count in
@@ -190,15 +190,15 @@ twice false true bs h = sym (inverted-back bs h)
 twice true true bs h = refl
 
 pub distance-stuck : (i below d : Bool) (width limit place : ℕ) (bs old now : List ℕ) → AreBytes bs → d ≡ inverted_again i below → old ≡ inverted i bs → now ≡ drop place old
-    → IsStuck (Unit {0}) (IsMagnitude width limit) (inverted d bs) (drop place (inverted d bs)) → IsStuck (Unit {0}) (IsInverted below (IsMagnitude width limit)) old now
+    → IsStuck (IsMagnitude width limit) (inverted d bs) (drop place (inverted d bs)) → IsStuck (IsInverted below (IsMagnitude width limit)) old now
 distance-stuck i below d width limit place bs old now h same is after stuck =
     let xs = inverted (inverted_again i below) bs in
     let e : old ≡ inverted below xs = is ∙ twice i below bs h in
     let f : now ≡ inverted below (drop place xs) = after ∙ ap (drop place) e ∙ drop-inverted below place xs in
-    let plain = subst (λ b. IsStuck (Unit {0}) (IsMagnitude width limit) (inverted b bs) (drop place (inverted b bs))) same stuck in
-    subst (λ ys. IsStuck (Unit {0}) (IsInverted below (IsMagnitude width limit)) ys now) (sym e)
-    (subst (λ ys. IsStuck (Unit {0}) (IsInverted below (IsMagnitude width limit)) (inverted below xs) ys) (sym f)
-    (stuck-inverted (Unit {0}) below (IsMagnitude width limit) xs (drop place xs) (λ s m. subst AreBytes (sym m.is) (number-bytes m.number)) (inverted-are_bytes (inverted_again i below) bs h) plain))
+    let plain = subst (λ b. IsStuck (IsMagnitude width limit) (inverted b bs) (drop place (inverted b bs))) same stuck in
+    subst (λ ys. IsStuck (IsInverted below (IsMagnitude width limit)) ys now) (sym e)
+    (subst (λ ys. IsStuck (IsInverted below (IsMagnitude width limit)) (inverted below xs) ys) (sym f)
+    (stuck-inverted below (IsMagnitude width limit) xs (drop place xs) (λ s m. subst AreBytes (sym m.is) (number-bytes m.number)) (inverted-are_bytes (inverted_again i below) bs h) plain))
 
 pub distance-read : (i below d : Bool) (width limit n : ℕ) (bs old now : List ℕ) → AreBytes bs → d ≡ inverted_again i below → old ≡ inverted i bs → now ≡ drop width old → HasMagnitude width limit (inverted d bs) n
     → HasDistance below width limit n old now

@@ -97,8 +97,8 @@ some-key One h = (key (content h.0), record { value = h.0; plain = h.1; is = ref
 
 -- nothing that begins with this byte, which all of the strings do
 
-pub stuck-first : (has : Type 0) (Is : List ℕ → Type 0) (b : ℕ) (old : List ℕ) → ((s : List ℕ) → Is s → (more : List ℕ) × (s ≡ b ∷ more)) → ((bs : List ℕ) → old ≢ b ∷ bs) → IsStuck has Is old old
-stuck-first has Is b old begins other = stuck-here has Is old (λ s zs rest h alike e.
+pub stuck-first : (Is : List ℕ → Type 0) (b : ℕ) (old : List ℕ) → ((s : List ℕ) → Is s → (more : List ℕ) × (s ≡ b ∷ more)) → ((bs : List ℕ) → old ≢ b ∷ bs) → IsStuck Is old old
+stuck-first Is b old begins other = stuck-here Is old (λ s zs rest h alike e.
     let first = begins s h in
     not-alike old zs (first.0 ++ rest) other alike (e ∙ ap (λ xs. xs ++ rest) first.1))
   where
@@ -164,11 +164,11 @@ part-front All One More old takes other (raw_then w ws) zs rest all alike e = (
 )
 
 -- a part is the beginning of the parts
-pub begin-part : (has : Type 0) (All : RawTrees → Type 0) (One : RawTree → Type 0) (More : RawTrees → Type 0) (old : List ℕ) → Takes All One More → (has → Some (AreKeys More))
-    → (All no_raws → (bs : List ℕ) → old ≢ 0 ∷ bs) → Begin has (IsKey One) (AreKeys All) old
-begin-part has All One More old takes some other = record {
-  extend = λ q h a.
-      let (more, others) = some a in (
+pub begin-part : (All : RawTrees → Type 0) (One : RawTree → Type 0) (More : RawTrees → Type 0) (old : List ℕ) → Takes All One More → Some (AreKeys More)
+    → (All no_raws → (bs : List ℕ) → old ≢ 0 ∷ bs) → Begin (IsKey One) (AreKeys All) old
+begin-part All One More old takes some other = record {
+  extend = λ q h.
+      let (more, others) = some in (
         more,
         record {
           values = raw_then h.value others.values;
@@ -230,21 +230,21 @@ so-far-end All More vs old now end so none e =
     subst (λ ws. HaveRead All ws old end) (joined-none vs) (so.read no_raws end (record { plain = record { kind = none; held = tt; untyped = tt }; is = e }))
 
 -- the next part is not there
-pub so-far-stuck : (has any : Type 0) (All : RawTrees → Type 0) (One : RawTree → Type 0) (Rest More : RawTrees → Type 0) (vs : RawTrees) (old now later : List ℕ) → SoFar All vs old Rest now
-    → (has → any) → (has → Some (AreKeys Rest)) → (has → Some (AreKeys More)) → Takes Rest One More → (Rest no_raws → (bs : List ℕ) → now ≢ 0 ∷ bs) → IsStuck any (IsKey One) now later
-    → IsStuck has (AreKeys All) old later
-so-far-stuck has any All One Rest More vs old now later so weaker some others takes other stuck =
-    stuck-later has so.front (AreKeys All) (AreKeys Rest) old now later so.go so.split some
-    (stuck-within has any (IsKey One) (AreKeys Rest) now later weaker (begin-part has Rest One More now takes others other) stuck)
+pub so-far-stuck : (All : RawTrees → Type 0) (One : RawTree → Type 0) (Rest More : RawTrees → Type 0) (vs : RawTrees) (old now later : List ℕ) → SoFar All vs old Rest now
+    → Some (AreKeys Rest) → Some (AreKeys More) → Takes Rest One More → (Rest no_raws → (bs : List ℕ) → now ≢ 0 ∷ bs) → IsStuck (IsKey One) now later
+    → IsStuck (AreKeys All) old later
+so-far-stuck All One Rest More vs old now later so some others takes other stuck =
+    stuck-later so.front (AreKeys All) (AreKeys Rest) old now later so.go so.split some
+    (stuck-within (IsKey One) (AreKeys Rest) now later (begin-part Rest One More now takes others other) stuck)
 
 -- the end is not there
-pub so-far-open : (has : Type 0) (All Rest : RawTrees → Type 0) (vs : RawTrees) (old now : List ℕ) → SoFar All vs old Rest now → Rest no_raws → ((v : RawTree) (ws : RawTrees) → ¬ (Rest (raw_then v ws)))
-    → ((bs : List ℕ) → now ≢ 0 ∷ bs) → IsStuck has (AreKeys All) old now
-so-far-open has All Rest vs old now so none never other =
+pub so-far-open : (All Rest : RawTrees → Type 0) (vs : RawTrees) (old now : List ℕ) → SoFar All vs old Rest now → Rest no_raws → ((v : RawTree) (ws : RawTrees) → ¬ (Rest (raw_then v ws)))
+    → ((bs : List ℕ) → now ≢ 0 ∷ bs) → IsStuck (AreKeys All) old now
+so-far-open All Rest vs old now so none never other =
     let nothing : (ws : RawTrees) → ArePlain Rest ws → (more : List ℕ) × (keys (contents ws) ≡ 0 ∷ more) = λ ws h. only_none ws h in
-    stuck-later has so.front (AreKeys All) (AreKeys Rest) old now now so.go so.split
-    (λ a. some-keys Rest (no_raws, record { kind = none; held = tt; untyped = tt }))
-    (stuck-first has (AreKeys Rest) 0 now (λ s h. let (more, e) = nothing h.values h.plain in (more, h.is ∙ e)) other)
+    stuck-later so.front (AreKeys All) (AreKeys Rest) old now now so.go so.split
+    (some-keys Rest (no_raws, record { kind = none; held = tt; untyped = tt }))
+    (stuck-first (AreKeys Rest) 0 now (λ s h. let (more, e) = nothing h.values h.plain in (more, h.is ∙ e)) other)
   where
     only_none : (ws : RawTrees) → ArePlain Rest ws → (more : List ℕ) × (keys (contents ws) ≡ 0 ∷ more)
     only_none no_raws h = ([], refl)
@@ -297,14 +297,14 @@ opens-split t b Rest opens s zs rest h e =
 pub opens-continue : (t : TypeTree) (b : ℕ) (Rest : List ℕ → Type 0) → Opens t b Rest → ContinueWith (b ∷ []) (IsKey (IsPresent t)) Rest
 opens-continue t b Rest opens = record { join = opens.join; split = opens-split t b Rest opens }
 
-pub opens-stuck : (has : Type 0) (t : TypeTree) (b : ℕ) (Rest : List ℕ → Type 0) (old mid now : List ℕ) → Opens t b Rest → old ≡ b ∷ mid → (has → Some Rest) → IsStuck has Rest mid now
-    → IsStuck has (IsKey (IsPresent t)) old now
-opens-stuck has t b Rest old mid now opens e some stuck = stuck-later has (b ∷ []) (IsKey (IsPresent t)) Rest old mid now (opens-continue t b Rest opens) e some stuck
+pub opens-stuck : (t : TypeTree) (b : ℕ) (Rest : List ℕ → Type 0) (old mid now : List ℕ) → Opens t b Rest → old ≡ b ∷ mid → Some Rest → IsStuck Rest mid now
+    → IsStuck (IsKey (IsPresent t)) old now
+opens-stuck t b Rest old mid now opens e some stuck = stuck-later (b ∷ []) (IsKey (IsPresent t)) Rest old mid now (opens-continue t b Rest opens) e some stuck
 
-pub opens-none : (has : Type 0) (t : TypeTree) (b : ℕ) (Rest : List ℕ → Type 0) (old now : List ℕ) → Opens t b Rest → now ≡ old → ((bs : List ℕ) → old ≢ b ∷ bs) → IsStuck has (IsKey (IsPresent t)) old now
-opens-none has t b Rest old now opens same other =
-    subst (λ xs. IsStuck has (IsKey (IsPresent t)) old xs) (sym same)
-    (stuck-first has (IsKey (IsPresent t)) b old (λ s h. let (q, is_rest, is) = opens.split h.value h.plain in (q, h.is ∙ is)) other)
+pub opens-none : (t : TypeTree) (b : ℕ) (Rest : List ℕ → Type 0) (old now : List ℕ) → Opens t b Rest → now ≡ old → ((bs : List ℕ) → old ≢ b ∷ bs) → IsStuck (IsKey (IsPresent t)) old now
+opens-none t b Rest old now opens same other =
+    subst (λ xs. IsStuck (IsKey (IsPresent t)) old xs) (sym same)
+    (stuck-first (IsKey (IsPresent t)) b old (λ s h. let (q, is_rest, is) = opens.split h.value h.plain in (q, h.is ∙ is)) other)
 
 -- tuples
 
@@ -427,9 +427,9 @@ continue-child id ids ts t small has = record {
 }
 
 -- no variant has the id
-pub child-none : (old now : List ℕ) (ids : List ℕ) (ts : TypeTrees) (id : ℕ) (more : List ℕ) → now ≡ old → old ≡ id ∷ more → type_with id ids ts ≡ None → IsStuck (Unit {0}) (IsChild ids ts) old now
+pub child-none : (old now : List ℕ) (ids : List ℕ) (ts : TypeTrees) (id : ℕ) (more : List ℕ) → now ≡ old → old ≡ id ∷ more → type_with id ids ts ≡ None → IsStuck (IsChild ids ts) old now
 child-none old now ids ts id more same e none =
-    subst (λ xs. IsStuck (Unit {0}) (IsChild ids ts) old xs) (sym same) (stuck-here (Unit {0}) (IsChild ids ts) old (none-byte (IsChild ids ts) id old more e no_id))
+    subst (λ xs. IsStuck (IsChild ids ts) old xs) (sym same) (stuck-here (IsChild ids ts) old (none-byte (IsChild ids ts) id old more e no_id))
   where
     no_id : NoneBegins (IsChild ids ts) id
     no_id s zs rest h f =
@@ -438,9 +438,9 @@ child-none old now ids ts id more same e none =
         cc
 
 -- the type of the variant with the id has no value
-pub child-never : (old now : List ℕ) (ids : List ℕ) (ts : TypeTrees) (id : ℕ) (more : List ℕ) (t : TypeTree) → now ≡ old → old ≡ id ∷ more → type_with id ids ts ≡ Present t → ¬ (HasPlain (Valid t)) → IsStuck (Unit {0}) (IsChild ids ts) old now
+pub child-never : (old now : List ℕ) (ids : List ℕ) (ts : TypeTrees) (id : ℕ) (more : List ℕ) (t : TypeTree) → now ≡ old → old ≡ id ∷ more → type_with id ids ts ≡ Present t → ¬ (HasPlain (Valid t)) → IsStuck (IsChild ids ts) old now
 child-never old now ids ts id more t same e has never =
-    subst (λ xs. IsStuck (Unit {0}) (IsChild ids ts) old xs) (sym same) (stuck-here (Unit {0}) (IsChild ids ts) old (none-byte (IsChild ids ts) id old more e no_id))
+    subst (λ xs. IsStuck (IsChild ids ts) old xs) (sym same) (stuck-here (IsChild ids ts) old (none-byte (IsChild ids ts) id old more e no_id))
   where
     no_id : NoneBegins (IsChild ids ts) id
     no_id s zs rest h f =
@@ -448,20 +448,20 @@ child-never old now ids ts id more t same e has never =
         let both : Present t ≡ Present h.type = sym has ∙ ap (λ i. type_with i ids ts) same ∙ h.has in
         never (subst (λ u. HasPlain (Valid u)) (sym (same_Some t h.type both)) (h.is_key.value, h.is_key.plain))
 
-pub child-missing : (old now : List ℕ) (ids : List ℕ) (ts : TypeTrees) → now ≡ old → old ≡ [] → IsStuck (Unit {0}) (IsChild ids ts) old now
+pub child-missing : (old now : List ℕ) (ids : List ℕ) (ts : TypeTrees) → now ≡ old → old ≡ [] → IsStuck (IsChild ids ts) old now
 child-missing old now ids ts same e =
-    subst (λ xs. IsStuck (Unit {0}) (IsChild ids ts) old xs) (sym same) (stuck-here (Unit {0}) (IsChild ids ts) old (none-end (IsChild ids ts) old e (λ h. let f = h.is in absurd (cc))))
+    subst (λ xs. IsStuck (IsChild ids ts) old xs) (sym same) (stuck-here (IsChild ids ts) old (none-end (IsChild ids ts) old e (λ h. let f = h.is in absurd (cc))))
 
 -- nulls
 
 -- a value that is no null, of a type that takes none or whose null is not there
-pub present-stuck : (has : Type 0) (t : TypeTree) (old mid now : List ℕ) → mid ≡ old → (IsNullable t → (bs : List ℕ) → old ≢ 1 ∷ bs) → IsStuck has (IsKey (IsPresent t)) mid now → IsStuck has (IsKey (Valid t)) old now
-present-stuck has t old mid now same other stuck =
-    stuck-within has has (IsKey (IsPresent t)) (IsKey (Valid t)) old now (λ a. a)
+pub present-stuck : (t : TypeTree) (old mid now : List ℕ) → mid ≡ old → (IsNullable t → (bs : List ℕ) → old ≢ 1 ∷ bs) → IsStuck (IsKey (IsPresent t)) mid now → IsStuck (IsKey (Valid t)) old now
+present-stuck t old mid now same other stuck =
+    stuck-within (IsKey (IsPresent t)) (IsKey (Valid t)) old now
     (record {
-      extend = λ q h a. ([], subst (IsKey (Valid t)) (sym (append-nil q)) (record { value = h.value; plain = record { kind = h.plain.kind.valid; held = h.plain.held; untyped = h.plain.untyped }; is = h.is }));
+      extend = λ q h. ([], subst (IsKey (Valid t)) (sym (append-nil q)) (record { value = h.value; plain = record { kind = h.plain.kind.valid; held = h.plain.held; untyped = h.plain.untyped }; is = h.is }));
       front = λ s zs rest h alike e. null_or_value s zs rest h.value h.plain h.is alike e;
-    }) (subst (λ xs. IsStuck has (IsKey (IsPresent t)) xs now) same stuck)
+    }) (subst (λ xs. IsStuck (IsKey (IsPresent t)) xs now) same stuck)
   where
     no_null : (old zs rest : List ℕ) → (IsNullable t → (bs : List ℕ) → old ≢ 1 ∷ bs) → IsNullable t → BeginAlike old zs → zs ≡ 1 ∷ rest → ⊥
     no_null [] [] rest other n alike e = cc
@@ -485,19 +485,18 @@ pub record SameValues (u t : TypeTree) : Type 0 where
   pub to : (v : RawTree) → IsPresent u v → IsPresent t v
   pub from : (v : RawTree) → IsPresent t v → IsPresent u v
 
-pub stuck-as : (has any : Type 0) (u t : TypeTree) (old now : List ℕ) → SameValues u t → (has → any) → IsStuck any (IsKey (IsPresent u)) old now → IsStuck has (IsKey (IsPresent t)) old now
-stuck-as has any u t old now same weaker stuck =
-    stuck-same has any (IsKey (IsPresent u)) (IsKey (IsPresent t)) old now weaker
+pub stuck-as : (u t : TypeTree) (old now : List ℕ) → SameValues u t → IsStuck (IsKey (IsPresent u)) old now → IsStuck (IsKey (IsPresent t)) old now
+stuck-as u t old now same stuck =
+    stuck-same (IsKey (IsPresent u)) (IsKey (IsPresent t)) old now
     (λ s h. record { value = h.value; plain = record { kind = same.to h.value h.plain.kind; held = h.plain.held; untyped = h.plain.untyped }; is = h.is })
     (λ s h. record { value = h.value; plain = record { kind = same.from h.value h.plain.kind; held = h.plain.held; untyped = h.plain.untyped }; is = h.is }) stuck
 
-pub reads-as : {A : Type 0} (has any : Type 0) (u t : TypeTree) (view : A → RawTree) (r : Result A KeyDecodeError) (old now : List ℕ) → SameValues u t → (has → any) → Reads any (IsPresent u) view r old now
-    → Reads has (IsPresent t) view r old now
-reads-as has any u t view (Ok x) old now same weaker h = record { plain = record { kind = same.to (view x) h.plain.kind; held = h.plain.held; untyped = h.plain.untyped }; is = h.is }
-reads-as has any u t view (Err e) old now same weaker h = λ bad. stuck-as has any u t old now same weaker (h bad)
+pub reads-as : {A : Type 0} (u t : TypeTree) (view : A → RawTree) (r : Result A KeyDecodeError) (old now : List ℕ) → SameValues u t → Reads (IsPresent u) view r old now → Reads (IsPresent t) view r old now
+reads-as u t view (Ok x) old now same h = record { plain = record { kind = same.to (view x) h.plain.kind; held = h.plain.held; untyped = h.plain.untyped }; is = h.is }
+reads-as u t view (Err e) old now same h = λ bad. stuck-as u t old now same (h bad)
 
 -- a refusal that is passed on
-pub refused : {A : Type 0} (has : Type 0) (One : RawTree → Type 0) (view : A → RawTree) (r : Result A KeyDecodeError) (e : KeyDecodeError) (old now : List ℕ) → IsErr r × IsErrAnd r (λ f. f ≡ e)
-    → (e ≡ Bad → IsStuck has (IsKey One) old now) → Reads has One view r old now
-refused has One view (Ok x) e old now h g = absurd (true≢false (sym h.0))
-refused has One view (Err f) e old now h g = λ bad. g (sym h.1 ∙ bad)
+pub refused : {A : Type 0} (One : RawTree → Type 0) (view : A → RawTree) (r : Result A KeyDecodeError) (e : KeyDecodeError) (old now : List ℕ) → IsErr r × IsErrAnd r (λ f. f ≡ e)
+    → (e ≡ Bad → IsStuck (IsKey One) old now) → Reads One view r old now
+refused One view (Ok x) e old now h g = absurd (true≢false (sym h.0))
+refused One view (Err f) e old now h g = λ bad. g (sym h.1 ∙ bad)

@@ -1,7 +1,6 @@
 -- Steps of the reading of a row, column by column.
-use Rattle.std.proofs.Common.{◌≡◌, ◌≢◌, ℕ, zero, suc, ◌+◌, ◌<◌, ◌≤◌, inl, inr, true≢false, List, [], ◌∷◌, ◌++◌, length, length-append, length-drop, map, drop, get_or, drop-cons, refl, sym, subst, ap, ap₂, ◌∙◌, append_assoc, append-nil, arith}
-use Rattle.std.specs.Prelude.{Result, Ok, Err, IsErr, MatchResult, Vec}
-use Rattle.std.specs.Result.{IsErrAnd}
+use Rattle.std.proofs.Common.{◌≡◌, ◌≢◌, ℕ, zero, suc, ◌+◌, ◌<◌, ◌≤◌, inl, inr, List, [], ◌∷◌, ◌++◌, length, length-append, length-drop, map, drop, get_or, drop-cons, refl, sym, subst, ap, ap₂, ◌∙◌, append_assoc, append-nil, arith}
+use Rattle.std.specs.Prelude.{Result, Ok, Err, MatchResult, Vec}
 use Rattle.std.specs.Global.{Global}
 use Rattle.std.proofs.Math.Seq.{drop-nil}
 use Rattle.vortex_dtype.specs.TypeOf.{dtype_trees, type_of}
@@ -16,9 +15,8 @@ use Rattle.vortex_value.specs.Values.Scalars.{scalar_content, scalar_raw, scalar
 use Rattle.vortex_value.specs.declared.scalars.Scalar.{Scalar}
 use Rattle.vortex_row.specs.Columns.{key_with, row_key}
 use Rattle.vortex_row.specs.Decoded.{AreMadeOf, AreOfTypes, AreValuesOf, BeginsWithRow, DecodesRowTo, IsDecodedRow, IsFirstBad, IsRowKeyOf, values_key}
-use Rattle.vortex_row.specs.ColumnReading.{AreColumnKeys, ArePlainOf, AreScalars, HasColumn, HasColumnAt, HasRow, IsColumnKey, IsRefusal, IsRefusalAt, scalars_key}
-use Rattle.vortex_row.specs.Reading.{ArePlain, AreKeyed, ContinueWith, HavePlain, IsKeyed, IsPlain, IsStuck}
-use Rattle.vortex_cells.specs.Variants.{HaveByteIds}
+use Rattle.vortex_row.specs.ColumnReading.{IsOfRow, AreColumnKeys, ArePlainOf, AreScalars, HasColumn, HasColumnAt, HasRow, IsColumnKey, IsRefusal, IsRefusalAt, scalars_key}
+use Rattle.vortex_row.specs.Reading.{ArePlain, ContinueWith, HavePlain, IsPlain, IsStuck}
 use Rattle.vortex_row.specs.declared.error.RowError.{RowError}
 use Rattle.vortex_row.specs.declared.error.RowError.TheVariants.{BadKey, OutOfMemory}
 use Rattle.vortex_row.specs.declared.options.SortOptions.{SortOptions}
@@ -83,10 +81,10 @@ row-fields (type_then t ts) (v ∷ vs) plain =
     let rest = row-fields ts vs plain.1 in
     (raw_then v rest.0, record { kind = (plain.0.kind, rest.1.kind); held = (plain.0.held, rest.1.held); untyped = (plain.0.untyped, rest.1.untyped) })
 
-begin-column : (has : Type 0) (o : SortOptions) (os : List SortOptions) (t : TypeTree) (ts : TypeTrees) (old : List ℕ) → (has → HaveRow ts) → Begin has (IsColumnKey o t) (AreColumnKeys (o ∷ os) (type_then t ts)) old
-begin-column has o os t ts old some = record {
-  extend = λ q h a.
-      let (more, others) = some-row os ts (some a) in
+begin-column : (o : SortOptions) (os : List SortOptions) (t : TypeTree) (ts : TypeTrees) (old : List ℕ) → HaveRow ts → Begin (IsColumnKey o t) (AreColumnKeys (o ∷ os) (type_then t ts)) old
+begin-column o os t ts old some = record {
+  extend = λ q h.
+      let (more, others) = some-row os ts some in
       (more, record { values = h.value ∷ others.values; plain = (h.plain, others.plain); is = ap₂ (λ xs ys. xs ++ ys) h.is others.is });
   front = λ s zs rest h alike e. column-front o os t ts h.values zs rest h.plain (e ∙ ap (λ xs. xs ++ rest) h.is);
 }
@@ -98,14 +96,14 @@ pub record ColumnsSoFar (os : List SortOptions) (ts : TypeTrees) (xs : List Scal
   pub split : bytes ≡ front ++ drop taken bytes
   pub count : taken ≡ length front
   pub go : ContinueWith front (AreColumnKeys os ts) (AreColumnKeys more types)
-  pub has : AreKeyed ts → AreKeyed types × HaveRow types
+  pub has : HavePlain (FieldsValid ts) → HaveRow types
   pub read : (ys : List Scalar) → AreScalars types ys → AreScalars ts (xs ++ ys) × (front ++ scalars_key more ys ≡ scalars_key os (xs ++ ys))
 
-pub columns-none : (os : List SortOptions) (ts : TypeTrees) (bytes : List ℕ) → (AreKeyed ts → HavePlain (FieldsValid ts)) → ColumnsSoFar os ts [] bytes os ts 0
-columns-none os ts bytes some = record { front = []; split = refl; count = refl; go = continue-itself (AreColumnKeys os ts); has = λ h. (h, fields-row ts (some h)); read = λ ys h. (h, refl) }
+pub columns-none : (os : List SortOptions) (ts : TypeTrees) (bytes : List ℕ) → ColumnsSoFar os ts [] bytes os ts 0
+columns-none os ts bytes = record { front = []; split = refl; count = refl; go = continue-itself (AreColumnKeys os ts); has = fields-row ts; read = λ ys h. (h, refl) }
 
-pub columns-start : (os : List SortOptions) (ts : TypeTrees) (xs : List Scalar) (bytes : List ℕ) → (AreKeyed ts → HavePlain (FieldsValid ts)) → xs ≡ [] → ColumnsSoFar os ts xs bytes os ts 0
-columns-start os ts xs bytes some e = subst (λ ys. ColumnsSoFar os ts ys bytes os ts 0) (sym e) (columns-none os ts bytes some)
+pub columns-start : (os : List SortOptions) (ts : TypeTrees) (xs : List Scalar) (bytes : List ℕ) → xs ≡ [] → ColumnsSoFar os ts xs bytes os ts 0
+columns-start os ts xs bytes e = subst (λ ys. ColumnsSoFar os ts ys bytes os ts 0) (sym e) (columns-none os ts bytes)
 
 pub same-option : (i : ℕ) (os : List SortOptions) (d : SortOptions) → i < length os → get_or os i d ≡ get_or os i (get_or os i d)
 same-option i [] d h = absurd (omega arith)
@@ -131,7 +129,7 @@ columns-step os ts xs ys x bytes o more t types taken n so typed h e =
       split = so.split ∙ ap (λ bs. so.front ++ bs) (h.is ∙ ap (λ bs. k ++ bs) (drop-more taken n bytes)) ∙ sym (append_assoc so.front k (drop (taken + n) bytes));
       count = let c = so.count in let d = h.count in let l = length-append so.front k in omega arith;
       go = continue-then so.front k (AreColumnKeys os ts) (AreColumnKeys (o ∷ more) (type_then t types)) (AreColumnKeys more types) so.go (continue-column o more t types (scalar_raw x) h.plain);
-      has = λ a. let (keyed, row) = so.has a in (((keyed.0.1, keyed.1.1), later-row t types row));
+      has = λ all. later-row t types (so.has all);
       read = λ zs all.
           let r = so.read (x ∷ zs) ((typed, h.plain), all) in
           let same : xs ++ x ∷ zs ≡ ys ++ zs = sym (append_assoc xs (x ∷ []) zs) ∙ ap (λ ws. ws ++ zs) (sym e) in
@@ -157,28 +155,36 @@ columns-more os ts i xs ys x bytes o t taken next less in_options type_is option
     (columns-step os (dtype_trees ts) xs ys x bytes o (drop (i + 1) os) (type_of t) (dtype_trees (drop (i + 1) ts)) taken h.width there h.typed h.column e)
 
 column-stops : (os : List SortOptions) (ts : TypeTrees) (xs : List Scalar) (bytes : List ℕ) (o : SortOptions) (more : List SortOptions) (t : TypeTree) (types : TypeTrees) (taken : ℕ) (now : List ℕ)
-    → ColumnsSoFar os ts xs bytes (o ∷ more) (type_then t types) taken → IsStuck (IsKeyed t) (IsColumnKey o t) (drop taken bytes) now → IsStuck (AreKeyed ts) (AreColumnKeys os ts) bytes now
-column-stops os ts xs bytes o more t types taken now so stuck =
-    stuck-later (AreKeyed ts) so.front (AreColumnKeys os ts) (AreColumnKeys (o ∷ more) (type_then t types)) bytes (drop taken bytes) now so.go so.split (λ a. some-row (o ∷ more) (type_then t types) (so.has a).1)
-    (stuck-within (AreKeyed ts) (IsKeyed t) (IsColumnKey o t) (AreColumnKeys (o ∷ more) (type_then t types)) (drop taken bytes) now (λ a. let keyed = (so.has a).0 in (keyed.0.0, keyed.1.0))
-    (begin-column (AreKeyed ts) o more t types (drop taken bytes) (λ a. later-row t types (so.has a).1)) stuck)
+    → ColumnsSoFar os ts xs bytes (o ∷ more) (type_then t types) taken → HavePlain (FieldsValid ts) → IsStuck (IsColumnKey o t) (drop taken bytes) now → IsStuck (AreColumnKeys os ts) bytes now
+column-stops os ts xs bytes o more t types taken now so all stuck =
+    stuck-later so.front (AreColumnKeys os ts) (AreColumnKeys (o ∷ more) (type_then t types)) bytes (drop taken bytes) now so.go so.split (some-row (o ∷ more) (type_then t types) (so.has all))
+    (stuck-within (IsColumnKey o t) (AreColumnKeys (o ∷ more) (type_then t types)) (drop taken bytes) now
+    (begin-column o more t types (drop taken bytes) (later-row t types (so.has all))) stuck)
 
 -- no row can be
-pub no-row : (os : List SortOptions) (ts : TypeTrees) (bytes : List ℕ) (e : RowError) → (e ≡ BadKey 0) × ¬ (HavePlain (FieldsValid ts)) → IsRefusal (AreKeyed ts) (AreColumnKeys os ts) bytes e
-no-row os ts bytes e h = inr (0, h.0, omega arith, stuck-here (AreKeyed ts) (AreColumnKeys os ts) bytes (λ s zs rest k alike f. h.1 (row-fields ts k.values k.plain)))
+pub no-row : (os : List SortOptions) (ts : TypeTrees) (bytes : List ℕ) (e : RowError) → (e ≡ BadKey 0) × ¬ (HavePlain (FieldsValid ts)) → IsRefusal (AreColumnKeys os ts) bytes e
+no-row os ts bytes e h = inr (0, h.0, omega arith, stuck-here (AreColumnKeys os ts) bytes (λ s zs rest k alike f. h.1 (row-fields ts k.values k.plain)))
 
 -- a column is refused, at an offset that counts from the row's first byte
-pub columns-refused : (os : List SortOptions) (ts : List DType) (i : ℕ) (xs : List Scalar) (bytes : List ℕ) (o : SortOptions) (t : DType) (taken : ℕ) (e : RowError) → i < length ts → i < length os → t ≡ get_or ts i t → o ≡ get_or os i o
-    → ColumnsSoFar os (dtype_trees ts) xs bytes (drop i os) (dtype_trees (drop i ts)) taken → IsRefusalAt (IsKeyed (type_of t)) (IsColumnKey o (type_of t)) bytes taken e
-    → IsRefusal (AreKeyed (dtype_trees ts)) (AreColumnKeys os (dtype_trees ts)) bytes e
-columns-refused os ts i xs bytes o t taken e less in_options type_is option_is so (inl out) = inl out
-columns-refused os ts i xs bytes o t taken e less in_options type_is option_is so (inr (place, is, within, stuck)) =
+columns-stuck : (os : List SortOptions) (ts : List DType) (i : ℕ) (xs : List Scalar) (bytes : List ℕ) (o : SortOptions) (t : DType) (taken place : ℕ) → i < length ts → i < length os → t ≡ get_or ts i t → o ≡ get_or os i o
+    → ColumnsSoFar os (dtype_trees ts) xs bytes (drop i os) (dtype_trees (drop i ts)) taken → HavePlain (FieldsValid (dtype_trees ts)) → place ≤ length (drop taken bytes)
+    → IsStuck (IsColumnKey o (type_of t)) (drop taken bytes) (drop place (drop taken bytes)) → (taken + place ≤ length bytes) × IsStuck (AreColumnKeys os (dtype_trees ts)) bytes (drop (taken + place) bytes)
+columns-stuck os ts i xs bytes o t taken place less in_options type_is option_is so all within stuck =
     let there = at-column os ts i xs bytes o t taken less in_options type_is option_is so in
-    let stop = column-stops os (dtype_trees ts) xs bytes o (drop (i + 1) os) (type_of t) (dtype_trees (drop (i + 1) ts)) taken (drop place (drop taken bytes)) there stuck in
+    let stop = column-stops os (dtype_trees ts) xs bytes o (drop (i + 1) os) (type_of t) (dtype_trees (drop (i + 1) ts)) taken (drop place (drop taken bytes)) there all stuck in
     let long = ap length there.split in
     let parts = length-append there.front (drop taken bytes) in
     let count = there.count in
-    inr (taken + place, is, omega arith, subst (IsStuck (AreKeyed (dtype_trees ts)) (AreColumnKeys os (dtype_trees ts)) bytes) (drop-more taken place bytes) stop)
+    (omega arith, subst (IsStuck (AreColumnKeys os (dtype_trees ts)) bytes) (drop-more taken place bytes) stop)
+
+pub row-refused : (os : List SortOptions) (ts : List DType) (i : ℕ) (xs : List Scalar) (bytes : List ℕ) (o : SortOptions) (t : DType) (taken : ℕ) (e r : RowError) → i < length ts → i < length os → t ≡ get_or ts i t → o ≡ get_or os i o
+    → ColumnsSoFar os (dtype_trees ts) xs bytes (drop i os) (dtype_trees (drop i ts)) taken → IsRefusalAt (IsColumnKey o (type_of t)) bytes taken e → IsOfRow (HavePlain (FieldsValid (dtype_trees ts))) e r
+    → IsRefusal (AreColumnKeys os (dtype_trees ts)) bytes r
+row-refused os ts i xs bytes o t taken e r less in_options type_is option_is so h (inr none) = no-row os (dtype_trees ts) bytes r none
+row-refused os ts i xs bytes o t taken e r less in_options type_is option_is so (inl out) (inl same) = inl (same.0 ∙ out)
+row-refused os ts i xs bytes o t taken e r less in_options type_is option_is so (inr (place, is, within, stuck)) (inl same) =
+    let at = columns-stuck os ts i xs bytes o t taken place less in_options type_is option_is so (same.1 (taken + place) is) within stuck in
+    inr (taken + place, same.0 ∙ is, at.0, at.1)
 
 pub columns-within : (os : List SortOptions) (ts : TypeTrees) (xs : List Scalar) (bytes : List ℕ) (more : List SortOptions) (types : TypeTrees) (taken : ℕ) → ColumnsSoFar os ts xs bytes more types taken → taken ≤ length bytes
 columns-within os ts xs bytes more types taken so =
@@ -200,17 +206,17 @@ column-fits o t v bytes place n h column =
 pub column-at : (o : SortOptions) (t : TypeTree) (x : Scalar) (bytes : List ℕ) (place n next : ℕ) → scalar_type x ≡ t → HasColumn o t (scalar_raw x) (drop place bytes) n → next ≡ place + n → HasColumnAt o t x bytes place next
 column-at o t x bytes place n next typed h e = record { typed = typed; width = n; column = h; after = e }
 
-pub bad-fits : (has : Type 0) (Is : List ℕ → Type 0) (bytes : List ℕ) (place bad : ℕ) → place ≤ length bytes → IsRefusal has Is (drop place bytes) (BadKey bad) → place + bad ≤ length bytes
-bad-fits has Is bytes place bad h (inl out) = absurd (cc)
-bad-fits has Is bytes place bad h (inr (at, is, within, stuck)) = let same : bad ≡ at = cc in let rest = length-drop place bytes in omega arith
+pub bad-fits : (Is : List ℕ → Type 0) (bytes : List ℕ) (place bad : ℕ) → place ≤ length bytes → IsRefusal Is (drop place bytes) (BadKey bad) → place + bad ≤ length bytes
+bad-fits Is bytes place bad h (inl out) = absurd (cc)
+bad-fits Is bytes place bad h (inr (at, is, within, stuck)) = let same : bad ≡ at = cc in let rest = length-drop place bytes in omega arith
 
-pub bad-at : (has : Type 0) (Is : List ℕ → Type 0) (bytes : List ℕ) (place bad : ℕ) → IsRefusal has Is (drop place bytes) (BadKey bad) → IsRefusalAt has Is bytes place (BadKey (place + bad))
-bad-at has Is bytes place bad (inl out) = absurd (cc)
-bad-at has Is bytes place bad (inr (at, is, within, stuck)) = let same : bad ≡ at = cc in inr (at, ap (λ n. BadKey (place + n)) same, within, stuck)
+pub bad-at : (Is : List ℕ → Type 0) (bytes : List ℕ) (place bad : ℕ) → IsRefusal Is (drop place bytes) (BadKey bad) → IsRefusalAt Is bytes place (BadKey (place + bad))
+bad-at Is bytes place bad (inl out) = absurd (cc)
+bad-at Is bytes place bad (inr (at, is, within, stuck)) = let same : bad ≡ at = cc in inr (at, ap (λ n. BadKey (place + n)) same, within, stuck)
 
-pub other-at : (has : Type 0) (Is : List ℕ → Type 0) (bytes : List ℕ) (place : ℕ) (e : RowError) → ((n : ℕ) → e ≢ BadKey n) → IsRefusal has Is (drop place bytes) e → IsRefusalAt has Is bytes place e
-other-at has Is bytes place e other (inl out) = inl out
-other-at has Is bytes place e other (inr (at, is, within, stuck)) = absurd (other at is)
+pub other-at : (Is : List ℕ → Type 0) (bytes : List ℕ) (place : ℕ) (e : RowError) → ((n : ℕ) → e ≢ BadKey n) → IsRefusal Is (drop place bytes) e → IsRefusalAt Is bytes place e
+other-at Is bytes place e other (inl out) = inl out
+other-at Is bytes place e other (inr (at, is, within, stuck)) = absurd (other at is)
 
 pub columns-end : (os : List SortOptions) (ts : List DType) (i : ℕ) (xs : List Scalar) (bytes : List ℕ) (taken : ℕ) → length ts ≡ length os → length ts ≤ i
     → ColumnsSoFar os (dtype_trees ts) xs bytes (drop i os) (dtype_trees (drop i ts)) taken → HasRow os (dtype_trees ts) xs bytes taken
@@ -258,13 +264,13 @@ rows-alike os ts n = (
   λ s h. record { values = h.values; begins = record { values = held-values ts h.values h.plain; is = h.is ∙ sym (append-nil (values_key os h.values)) } },
 )
 
-pub row-bad : (os : List SortOptions) (ts : TypeTrees) (bytes : List ℕ) (e : RowError) → HaveNoVariant ts → HaveByteIds ts → IsRefusal (AreKeyed ts) (AreColumnKeys os ts) bytes e → (place : ℕ) → e ≡ BadKey place
+pub row-bad : (os : List SortOptions) (ts : TypeTrees) (bytes : List ℕ) (e : RowError) → HaveNoVariant ts → IsRefusal (AreColumnKeys os ts) bytes e → (place : ℕ) → e ≡ BadKey place
     → IsFirstBad (IsRowKeyOf os ts) bytes place
-row-bad os ts bytes e none ids (inl out) place is = absurd (cc)
-row-bad os ts bytes e none ids (inr (at, is, within, stuck)) place is_at =
+row-bad os ts bytes e none (inl out) place is = absurd (cc)
+row-bad os ts bytes e none (inr (at, is, within, stuck)) place is_at =
     let same : at ≡ place = cc in
     subst (IsFirstBad (IsRowKeyOf os ts) bytes) same
-    (first-bad (IsRowKeyOf os ts) (AreColumnKeys os ts) (AreKeyed ts) bytes at (rows-alike os ts none) (none, ids) within stuck)
+    (first-bad (IsRowKeyOf os ts) (AreColumnKeys os ts) bytes at (rows-alike os ts none) within stuck)
 
 -- as many options as types
 abbrev length-is : List SortOptions → TypeTrees → Type 0
@@ -300,10 +306,10 @@ row-whole os ts xs bytes n one none same h vs rest begins =
     let both = same-row os (dtype_trees ts) xs vs (drop n bytes) rest one (as-long os ts same) h.scalars (plain-values (dtype_trees ts) vs none begins.values) (sym h.is ∙ begins.is) in
     (both.0, h.count ∙ ap length both.1)
 
-pub row-whole_bad : (has : Type 0) (os : List SortOptions) (ts : TypeTrees) (bytes : List ℕ) (e : RowError) → HaveNoVariant ts → IsRefusal has (AreColumnKeys os ts) bytes e → (vs : List RawTree) (rest : List ℕ) → BeginsWithRow os ts bytes vs rest → e ≡ OutOfMemory
-row-whole_bad has os ts bytes e none (inl out) vs rest begins = out
-row-whole_bad has os ts bytes e none (inr (place, is, within, stuck)) vs rest begins =
-    absurd (not-stuck has (AreColumnKeys os ts) bytes (drop place bytes) (values_key os vs) rest stuck (record { values = vs; plain = plain-values ts vs none begins.values; is = refl }) begins.is)
+pub row-whole_bad : (os : List SortOptions) (ts : TypeTrees) (bytes : List ℕ) (e : RowError) → HaveNoVariant ts → IsRefusal (AreColumnKeys os ts) bytes e → (vs : List RawTree) (rest : List ℕ) → BeginsWithRow os ts bytes vs rest → e ≡ OutOfMemory
+row-whole_bad os ts bytes e none (inl out) vs rest begins = out
+row-whole_bad os ts bytes e none (inr (place, is, within, stuck)) vs rest begins =
+    absurd (not-stuck (AreColumnKeys os ts) bytes (drop place bytes) (values_key os vs) rest stuck (record { values = vs; plain = plain-values ts vs none begins.values; is = refl }) begins.is)
 
 pub row-decoded : (os : List SortOptions) (ts : TypeTrees) (xs : List Scalar) (bytes : List ℕ) (n : ℕ) → HasRow os ts xs bytes n → IsDecodedRow os ts bytes xs n
 row-decoded os ts xs bytes n h =
@@ -321,22 +327,17 @@ row-decoded os ts xs bytes n h =
     types-of no_types (x ∷ xs) h = absurd h
     types-of (type_then t ts) [] h = absurd h
 
-pub row-refused : (os : List SortOptions) (ts : TypeTrees) (bytes : List ℕ) (r : Result (Vec Scalar Global × ℕ) RowError) (e : RowError) → IsErr r × IsErrAnd r (λ f. f ≡ e) → IsRefusal (AreKeyed ts) (AreColumnKeys os ts) bytes e
-    → MatchResult r (λ p. HasRow os ts p.0.items bytes p.1) (λ f. IsRefusal (AreKeyed ts) (AreColumnKeys os ts) bytes f)
-row-refused os ts bytes (Ok p) e h k = absurd (true≢false (sym h.0))
-row-refused os ts bytes (Err f) e h k = subst (IsRefusal (AreKeyed ts) (AreColumnKeys os ts) bytes) (sym h.1) k
-
 pub rows-whole : (os : List SortOptions) (ts : List DType) (bytes : List ℕ) (r : Result (Vec Scalar Global × ℕ) RowError) → OneValue
-    → MatchResult r (λ p. HasRow os (dtype_trees ts) p.0.items bytes p.1) (λ e. IsRefusal (AreKeyed (dtype_trees ts)) (AreColumnKeys os (dtype_trees ts)) bytes e)
+    → MatchResult r (λ p. HasRow os (dtype_trees ts) p.0.items bytes p.1) (λ e. IsRefusal (AreColumnKeys os (dtype_trees ts)) bytes e)
     → (vs : List RawTree) (rest : List ℕ) → length ts ≡ length os → HaveNoVariant (dtype_trees ts) → BeginsWithRow os (dtype_trees ts) bytes vs rest → DecodesRowTo os (dtype_trees ts) vs r
 rows-whole os ts bytes (Ok p) one h vs rest same none begins = row-whole os ts p.0.items bytes p.1 one none same h vs rest begins
-rows-whole os ts bytes (Err e) one h vs rest same none begins = row-whole_bad (AreKeyed (dtype_trees ts)) os (dtype_trees ts) bytes e none h vs rest begins
+rows-whole os ts bytes (Err e) one h vs rest same none begins = row-whole_bad os (dtype_trees ts) bytes e none h vs rest begins
 
-pub rows-bad : (os : List SortOptions) (ts : List DType) (bytes : List ℕ) (r : Result (Vec Scalar Global × ℕ) RowError) → HaveNoVariant (dtype_trees ts) → HaveByteIds (dtype_trees ts)
-    → MatchResult r (λ p. HasRow os (dtype_trees ts) p.0.items bytes p.1) (λ e. IsRefusal (AreKeyed (dtype_trees ts)) (AreColumnKeys os (dtype_trees ts)) bytes e) → (place : ℕ) → r ≡ Err (BadKey place)
+pub rows-bad : (os : List SortOptions) (ts : List DType) (bytes : List ℕ) (r : Result (Vec Scalar Global × ℕ) RowError) → HaveNoVariant (dtype_trees ts)
+    → MatchResult r (λ p. HasRow os (dtype_trees ts) p.0.items bytes p.1) (λ e. IsRefusal (AreColumnKeys os (dtype_trees ts)) bytes e) → (place : ℕ) → r ≡ Err (BadKey place)
     → IsFirstBad (IsRowKeyOf os (dtype_trees ts)) bytes place
-rows-bad os ts bytes (Ok p) none ids h place e = absurd (cc)
-rows-bad os ts bytes (Err e) none ids h place is = let same : e ≡ BadKey place = cc in row-bad os (dtype_trees ts) bytes e none ids h place same
+rows-bad os ts bytes (Ok p) none h place e = absurd (cc)
+rows-bad os ts bytes (Err e) none h place is = let same : e ≡ BadKey place = cc in row-bad os (dtype_trees ts) bytes e none h place same
 
 pub ruleset places = (column-at, bad-at, other-at)
 

@@ -56,26 +56,26 @@ none-escaped now e = none-end (IsEscaped IsAny) now e (λ h. escaped-some h.stri
 -- steps
 
 -- no second byte
-pub half-stuck : (old : List ℕ) → ((bs : List ℕ) → old ≢ 1 ∷ bs) → ((bs : List ℕ) → old ≢ 2 ∷ bs) → IsStuck (Unit {0}) (IsHalfEscaped IsAny) old old
-half-stuck [] h k = stuck-here (Unit {0}) (IsHalfEscaped IsAny) [] (none-end (IsHalfEscaped IsAny) [] refl (λ p. let e = p.is in absurd (cc)))
+pub half-stuck : (old : List ℕ) → ((bs : List ℕ) → old ≢ 1 ∷ bs) → ((bs : List ℕ) → old ≢ 2 ∷ bs) → IsStuck (IsHalfEscaped IsAny) old old
+half-stuck [] h k = stuck-here (IsHalfEscaped IsAny) [] (none-end (IsHalfEscaped IsAny) [] refl (λ p. let e = p.is in absurd (cc)))
 half-stuck (b ∷ old) h k =
-    stuck-here (Unit {0}) (IsHalfEscaped IsAny) (b ∷ old) (none-byte (IsHalfEscaped IsAny) b (b ∷ old) old refl
+    stuck-here (IsHalfEscaped IsAny) (b ∷ old) (none-byte (IsHalfEscaped IsAny) b (b ∷ old) old refl
     (none-second IsAny b (λ e. h old (ap (λ c. c ∷ old) e)) (λ e. k old (ap (λ c. c ∷ old) e))))
 
-pub half-stuck_at : (old now : List ℕ) → now ≡ old → ((bs : List ℕ) → old ≢ 1 ∷ bs) → ((bs : List ℕ) → now ≢ 2 ∷ bs) → IsStuck (Unit {0}) (IsHalfEscaped IsAny) old now
-half-stuck_at old now e h k = subst (λ xs. IsStuck (Unit {0}) (IsHalfEscaped IsAny) old xs) (sym e) (half-stuck old h (λ bs f. k bs (e ∙ f)))
+pub half-stuck_at : (old now : List ℕ) → now ≡ old → ((bs : List ℕ) → old ≢ 1 ∷ bs) → ((bs : List ℕ) → now ≢ 2 ∷ bs) → IsStuck (IsHalfEscaped IsAny) old now
+half-stuck_at old now e h k = subst (λ xs. IsStuck (IsHalfEscaped IsAny) old xs) (sym e) (half-stuck old h (λ bs f. k bs (e ∙ f)))
 
 -- the first byte of two, and no second one
-pub escape-stuck : (old mid now : List ℕ) → old ≡ 1 ∷ mid → IsStuck (Unit {0}) (IsHalfEscaped IsAny) mid now → IsStuck (Unit {0}) (IsEscaped IsAny) old now
+pub escape-stuck : (old mid now : List ℕ) → old ≡ 1 ∷ mid → IsStuck (IsHalfEscaped IsAny) mid now → IsStuck (IsEscaped IsAny) old now
 escape-stuck old mid now e h =
-    stuck-later (Unit {0}) (1 ∷ []) (IsEscaped IsAny) (IsHalfEscaped IsAny) old mid now (continue-half IsAny IsAny (any-follows 0) (any-follows 1)) e (λ u. some-half) h
+    stuck-later (1 ∷ []) (IsEscaped IsAny) (IsHalfEscaped IsAny) old mid now (continue-half IsAny IsAny (any-follows 0) (any-follows 1)) e some-half h
 
-pub byte-missing : (old : List ℕ) → old ≡ [] → IsStuck (Unit {0}) (IsEscaped IsAny) old old
-byte-missing old e = stuck-here (Unit {0}) (IsEscaped IsAny) old (none-escaped old e)
+pub byte-missing : (old : List ℕ) → old ≡ [] → IsStuck (IsEscaped IsAny) old old
+byte-missing old e = stuck-here (IsEscaped IsAny) old (none-escaped old e)
 
 -- after some bytes
-pub later-stuck : (bs old mid now : List ℕ) → AreBytes bs → old ≡ escaped_bytes bs ++ mid → IsStuck (Unit {0}) (IsEscaped IsAny) mid now → IsStuck (Unit {0}) (IsEscaped IsAny) old now
-later-stuck bs old mid now h e stuck = stuck-later (Unit {0}) (escaped_bytes bs) (IsEscaped IsAny) (IsEscaped IsAny) old mid now (continue-bytes bs h) e (λ u. some-escaped) stuck
+pub later-stuck : (bs old mid now : List ℕ) → AreBytes bs → old ≡ escaped_bytes bs ++ mid → IsStuck (IsEscaped IsAny) mid now → IsStuck (IsEscaped IsAny) old now
+later-stuck bs old mid now h e stuck = stuck-later (escaped_bytes bs) (IsEscaped IsAny) (IsEscaped IsAny) old mid now (continue-bytes bs h) e some-escaped stuck
 
 pub string-ends : (bs old mid now : List ℕ) → AreBytes bs → old ≡ escaped_bytes bs ++ mid → mid ≡ 0 ∷ now → HasString IsAny bs old now
 string-ends bs old mid now h e f = record {
@@ -149,10 +149,10 @@ no-text bs old now h no_utf8 text =
     no_utf8 (subst IsUtf8 (sym same) text.is_one.kind)
 
 -- and a text is a string
-pub no-string : (old now : List ℕ) → IsStuck (Unit {0}) (IsEscaped IsAny) old now → ¬ (BeginsWithOne (IsEscaped IsUtf8) old)
+pub no-string : (old now : List ℕ) → IsStuck (IsEscaped IsAny) old now → ¬ (BeginsWithOne (IsEscaped IsUtf8) old)
 no-string old now stuck text =
     let e = text.is_one in
-    not-stuck (Unit {0}) (IsEscaped IsAny) old now text.string text.rest stuck (record { string = e.string; kind = tt; bytes = e.bytes; is = e.is }) text.is
+    not-stuck (IsEscaped IsAny) old now text.string text.rest stuck (record { string = e.string; kind = tt; bytes = e.bytes; is = e.is }) text.is
 
 pub text-read : (bs old now : List ℕ) → HasString IsAny bs old now → IsUtf8 bs → HasString IsUtf8 bs old now
 text-read bs old now h utf8 = record { kind = utf8; bytes = h.bytes; is = h.is }

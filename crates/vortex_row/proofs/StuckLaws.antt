@@ -34,36 +34,36 @@ alike-through [] now zs old e h = subst (λ xs. BeginAlike xs zs) (sym e) h
 alike-through (b ∷ done) now zs [] e h = absurd (cc)
 alike-through (b ∷ done) now zs (c ∷ old) e h = cc
 
-pub stuck-here : (all : Type 0) (Is : List ℕ → Type 0) (now : List ℕ) → NoneHere Is now → IsStuck all Is now now
-stuck-here all Is now none = record { done = []; split = refl; begins = λ a. inl refl; none = none }
+pub stuck-here : (Is : List ℕ → Type 0) (now : List ℕ) → NoneHere Is now → IsStuck Is now now
+stuck-here Is now none = record { done = []; split = refl; begins = inl refl; none = none }
 
-later-begins : (all : Type 0) (p done : List ℕ) (Is Rest : List ℕ → Type 0) → ContinueWith p Is Rest → Some Rest → (done ≡ []) ⊎ ((more : List ℕ) × Rest (done ++ more))
+later-begins : (p done : List ℕ) (Is Rest : List ℕ → Type 0) → ContinueWith p Is Rest → Some Rest → (done ≡ []) ⊎ ((more : List ℕ) × Rest (done ++ more))
     → (p ++ done ≡ []) ⊎ ((more : List ℕ) × Is ((p ++ done) ++ more))
-later-begins all p done Is Rest go some (inl empty) =
+later-begins p done Is Rest go some (inl empty) =
     let e : p ++ some.0 ≡ (p ++ done) ++ some.0 = ap (λ ds. ds ++ some.0) (sym (append-nil p)) ∙ ap (λ ds. (p ++ ds) ++ some.0) (sym empty) in
     inr (some.0, subst Is e (go.join some.0 some.1))
-later-begins all p done Is Rest go some (inr h) = inr (h.0, subst Is (sym (append_assoc p done h.0)) (go.join (done ++ h.0) h.1))
+later-begins p done Is Rest go some (inr h) = inr (h.0, subst Is (sym (append_assoc p done h.0)) (go.join (done ++ h.0) h.1))
 
 -- after a beginning
-pub stuck-later : (all : Type 0) (p : List ℕ) (Is Rest : List ℕ → Type 0) (old mid now : List ℕ) → ContinueWith p Is Rest → old ≡ p ++ mid → (all → Some Rest)
-    → IsStuck all Rest mid now → IsStuck all Is old now
-stuck-later all p Is Rest old mid now go e some stuck = record {
+pub stuck-later : (p : List ℕ) (Is Rest : List ℕ → Type 0) (old mid now : List ℕ) → ContinueWith p Is Rest → old ≡ p ++ mid → Some Rest
+    → IsStuck Rest mid now → IsStuck Is old now
+stuck-later p Is Rest old mid now go e some stuck = record {
   done = p ++ stuck.done;
   split = e ∙ ap (λ xs. p ++ xs) stuck.split ∙ sym (append_assoc p stuck.done now);
-  begins = λ a. later-begins all p stuck.done Is Rest go (some a) (stuck.begins a);
+  begins = later-begins p stuck.done Is Rest go some stuck.begins;
   none = λ s zs rest h alike f.
       let (q, is_rest, g) = go.split s (stuck.done ++ zs) rest h (sym (append_assoc p stuck.done zs) ∙ f) in
       stuck.none q zs rest is_rest alike g;
 }
 
 -- right after a beginning
-pub stuck-after : (all : Type 0) (p : List ℕ) (Is Rest : List ℕ → Type 0) (old now : List ℕ) → ContinueWith p Is Rest → old ≡ p ++ now → (all → Some Rest) → NoneHere Rest now
-    → IsStuck all Is old now
-stuck-after all p Is Rest old now go e some none = stuck-later all p Is Rest old now now go e some (stuck-here all Rest now none)
+pub stuck-after : (p : List ℕ) (Is Rest : List ℕ → Type 0) (old now : List ℕ) → ContinueWith p Is Rest → old ≡ p ++ now → Some Rest → NoneHere Rest now
+    → IsStuck Is old now
+stuck-after p Is Rest old now go e some none = stuck-later p Is Rest old now now go e some (stuck-here Rest now none)
 
 -- each string of Is begins one of Whole, and each of Whole that begins as the bytes do begins with one of Is
-pub record Begin (all : Type 0) (Is Whole : List ℕ → Type 0) (old : List ℕ) : Type 0 where
-  pub extend : (q : List ℕ) → Is q → all → (more : List ℕ) × Whole (q ++ more)
+pub record Begin (Is Whole : List ℕ → Type 0) (old : List ℕ) : Type 0 where
+  pub extend : (q : List ℕ) → Is q → (more : List ℕ) × Whole (q ++ more)
   pub front : (s zs rest : List ℕ) → Whole s → BeginAlike old zs → zs ≡ s ++ rest → (q rest : List ℕ) × Is q × (zs ≡ q ++ rest)
 
 within-begins : (done : List ℕ) (Is Whole : List ℕ → Type 0) → ((q : List ℕ) → Is q → (more : List ℕ) × Whole (q ++ more)) → (done ≡ []) ⊎ ((more : List ℕ) × Is (done ++ more))
@@ -74,22 +74,22 @@ within-begins done Is Whole extend (inr h) =
     inr (h.0 ++ more, subst Whole (append_assoc done h.0 more) whole)
 
 -- in the first part
-pub stuck-within : (all any : Type 0) (Is Whole : List ℕ → Type 0) (old now : List ℕ) → (all → any) → Begin all Is Whole old → IsStuck any Is old now → IsStuck all Whole old now
-stuck-within all any Is Whole old now weaker begin stuck = record {
+pub stuck-within : (Is Whole : List ℕ → Type 0) (old now : List ℕ) → Begin Is Whole old → IsStuck Is old now → IsStuck Whole old now
+stuck-within Is Whole old now begin stuck = record {
   done = stuck.done;
   split = stuck.split;
-  begins = λ a. within-begins stuck.done Is Whole (λ q h. begin.extend q h a) (stuck.begins (weaker a));
+  begins = within-begins stuck.done Is Whole begin.extend stuck.begins;
   none = λ s zs rest h alike e.
       let (q, more, is_one, f) = begin.front s (stuck.done ++ zs) rest h (alike-through stuck.done now zs old stuck.split alike) e in
       stuck.none q zs more is_one alike f;
 }
 
 -- of strings that are the same
-pub stuck-same : (all any : Type 0) (Is Whole : List ℕ → Type 0) (old now : List ℕ) → (all → any) → ((s : List ℕ) → Is s → Whole s) → ((s : List ℕ) → Whole s → Is s)
-    → IsStuck any Is old now → IsStuck all Whole old now
-stuck-same all any Is Whole old now weaker to from stuck =
-    stuck-within all any Is Whole old now weaker
-    (record { extend = λ q h a. ([], subst Whole (sym (append-nil q)) (to q h)); front = λ s zs rest h alike e. (s, rest, from s h, e) }) stuck
+pub stuck-same : (Is Whole : List ℕ → Type 0) (old now : List ℕ) → ((s : List ℕ) → Is s → Whole s) → ((s : List ℕ) → Whole s → Is s)
+    → IsStuck Is old now → IsStuck Whole old now
+stuck-same Is Whole old now to from stuck =
+    stuck-within Is Whole old now
+    (record { extend = λ q h. ([], subst Whole (sym (append-nil q)) (to q h)); front = λ s zs rest h alike e. (s, rest, from s h, e) }) stuck
 
 -- the next byte, or the end, fits none
 
@@ -108,8 +108,8 @@ none-end Is now e none s [] rest h alike f = none (subst Is (front-empty s rest 
 none-end Is now e none s (z ∷ zs) rest h alike f = subst (λ xs. BeginAlike xs (z ∷ zs)) e alike
 
 -- the bytes begin with one of them after all
-pub not-stuck : (all : Type 0) (Is : List ℕ → Type 0) (old now s rest : List ℕ) → IsStuck all Is old now → Is s → ¬ (old ≡ s ++ rest)
-not-stuck all Is old now s rest stuck h e = stuck.none s now rest h (itself now) (sym stuck.split ∙ e)
+pub not-stuck : (Is : List ℕ → Type 0) (old now s rest : List ℕ) → IsStuck Is old now → Is s → ¬ (old ≡ s ++ rest)
+not-stuck Is old now s rest stuck h e = stuck.none s now rest h (itself now) (sym stuck.split ∙ e)
   where
     itself : (xs : List ℕ) → BeginAlike xs xs
     itself [] = tt
@@ -128,16 +128,16 @@ inverted-begins : (Is : List ℕ → Type 0) (done : List ℕ) → (done ≡ [])
 inverted-begins Is done (inl e) = inl (ap (inverted true) e)
 inverted-begins Is done (inr h) = inr (inverted true h.0, record { string = done ++ h.0; is_one = h.1; is = sym (inverted-append true done h.0) })
 
-pub stuck-inverted : (has : Type 0) (d : Bool) (Is : List ℕ → Type 0) (old now : List ℕ) → ((s : List ℕ) → Is s → AreBytes s) → AreBytes old → IsStuck has Is old now
-    → IsStuck has (IsInverted d Is) (inverted d old) (inverted d now)
-stuck-inverted has false Is old now are bytes stuck =
-    stuck-same has has Is (IsInverted false Is) old now (λ a. a) (λ s h. record { string = s; is_one = h; is = refl }) (λ s h. subst Is (sym h.is) h.is_one) stuck
-stuck-inverted has true Is old now are bytes stuck =
+pub stuck-inverted : (d : Bool) (Is : List ℕ → Type 0) (old now : List ℕ) → ((s : List ℕ) → Is s → AreBytes s) → AreBytes old → IsStuck Is old now
+    → IsStuck (IsInverted d Is) (inverted d old) (inverted d now)
+stuck-inverted false Is old now are bytes stuck =
+    stuck-same Is (IsInverted false Is) old now (λ s h. record { string = s; is_one = h; is = refl }) (λ s h. subst Is (sym h.is) h.is_one) stuck
+stuck-inverted true Is old now are bytes stuck =
     let parts = bytes-parts stuck.done now (subst AreBytes stuck.split bytes) in
     record {
       done = inverted true stuck.done;
       split = ap (inverted true) stuck.split ∙ inverted-append true stuck.done now;
-      begins = λ a. inverted-begins Is stuck.done (stuck.begins a);
+      begins = inverted-begins Is stuck.done stuck.begins;
       none = λ s zs rest h alike e.
           let f : stuck.done ++ inverted true zs ≡ h.string ++ inverted true rest =
           ap (λ ys. ys ++ inverted true zs) (sym (inverted-back stuck.done parts.0)) ∙ sym (inverted-append true (inverted true stuck.done) zs) ∙ ap (inverted true) (e ∙ ap (λ ys. ys ++ rest) h.is)

@@ -219,10 +219,10 @@ no-empty (Within low high more) h = escaped-some h.string h.is
 -- a step of the search for a bad byte: none comes next, or the end of a text
 
 pub bad-byte : (xs : List ℕ) (i b : ℕ) (next : Next) → i < length xs → b ≡ get_or xs i 0 → IsProper next → ContinueWith (take i xs) (IsEscaped IsUtf8) (ComesNext next)
-    → NoneBegins (ComesNext next) b ⊎ ((next ≡ Character) × (b ≡ 0)) → IsStuck (Unit {0}) (IsEscaped IsUtf8) xs (drop i xs) ⊎ BeginsWithOne (IsEscaped IsUtf8) xs
+    → NoneBegins (ComesNext next) b ⊎ ((next ≡ Character) × (b ≡ 0)) → IsStuck (IsEscaped IsUtf8) xs (drop i xs) ⊎ BeginsWithOne (IsEscaped IsUtf8) xs
 bad-byte xs i b next there is proper go (inl none) =
     let first : drop i xs ≡ b ∷ drop (suc i) xs = at-once i xs there ∙ ap (λ c. c ∷ drop (suc i) xs) (sym is) in
-    inl (stuck-after (Unit {0}) (take i xs) (IsEscaped IsUtf8) (ComesNext next) xs (drop i xs) go (take-then i xs) (λ u. goes-on next proper) (none-byte (ComesNext next) b (drop i xs) (drop (suc i) xs) first none))
+    inl (stuck-after (take i xs) (IsEscaped IsUtf8) (ComesNext next) xs (drop i xs) go (take-then i xs) (goes-on next proper) (none-byte (ComesNext next) b (drop i xs) (drop (suc i) xs) first none))
 bad-byte xs i b next there is proper go (inr end) =
     let first : drop i xs ≡ 0 ∷ drop (suc i) xs = at-once i xs there ∙ ap (λ c. c ∷ drop (suc i) xs) (sym is ∙ end.1) in
     let last : ContinueWith (take i xs) (IsEscaped IsUtf8) (ComesNext Character) = subst (λ n. ContinueWith (take i xs) (IsEscaped IsUtf8) (ComesNext n)) end.0 go in
@@ -241,12 +241,12 @@ good-byte xs i b next then there is go step =
     subst (λ p. ContinueWith p (IsEscaped IsUtf8) (ComesNext then)) e (continue-then (take i xs) (b ∷ []) (IsEscaped IsUtf8) (ComesNext next) (ComesNext then) go step)
 
 pub ends-early : (xs : List ℕ) (n i : ℕ) (next : Next) → n ≡ length xs → n ≤ i → IsProper next → ContinueWith (take i xs) (IsEscaped IsUtf8) (ComesNext next)
-    → IsStuck (Unit {0}) (IsEscaped IsUtf8) xs (drop n xs)
+    → IsStuck (IsEscaped IsUtf8) xs (drop n xs)
 ends-early xs n i next is past proper go =
     let all : take i xs ≡ xs = take-past i xs (omega arith) in
     let none : drop n xs ≡ [] = none-left n xs (omega arith) in
-    stuck-after (Unit {0}) (take i xs) (IsEscaped IsUtf8) (ComesNext next) xs (drop n xs) go
-    (sym (append-nil xs) ∙ ap₂ (λ ys zs. ys ++ zs) (sym all) (sym none)) (λ u. goes-on next proper) (none-end (ComesNext next) (drop n xs) none (no-empty next))
+    stuck-after (take i xs) (IsEscaped IsUtf8) (ComesNext next) xs (drop n xs) go
+    (sym (append-nil xs) ∙ ap₂ (λ ys zs. ys ++ zs) (sym all) (sym none)) (goes-on next proper) (none-end (ComesNext next) (drop n xs) none (no-empty next))
 
 pub ruleset leads = (lead-one, lead-two, lead-three, lead-four, no-lead)
 

@@ -1,15 +1,14 @@
 -- Steps of the reading of values, down the type.
-use Rattle.std.proofs.Common.{◌≡◌, ◌≢◌, ℕ, zero, suc, ◌+◌, ◌<◌, ◌≤◌, ◌⊎◌, inl, inr, false, true, true≢false, List, [], ◌∷◌, ◌++◌, length, length-append, map, drop, get_or, drop-cons, Option, Some as Present, Vec, Box, Global, refl, sym, subst, ap, ap₂, ◌∙◌, arith}
-use Rattle.std.specs.Prelude.{Bool, Err, IsErr, MatchResult, Ok, Result, if◌then◌else◌, ◌==◌}
-use Rattle.std.specs.Result.{IsErrAnd}
+use Rattle.std.proofs.Common.{◌≡◌, ◌≢◌, ℕ, zero, suc, ◌+◌, ◌<◌, ◌≤◌, false, true, List, [], ◌∷◌, ◌++◌, length, length-append, map, drop, get_or, drop-cons, Option, Some as Present, Vec, Box, Global, refl, sym, subst, ap, ap₂, ◌∙◌, arith}
+use Rattle.std.specs.Prelude.{Bool, Err, MatchResult, Ok, Result, if◌then◌else◌, ◌==◌}
 use Rattle.std.proofs.lemmas.Option.{same_Some}
-use Rattle.vortex_dtype.specs.Lemmas.TypeLevels.{type_of-Null, type_of-Variant, type_of-List, type_of-FixedSizeList, type_of-Map, type_of-Struct, type_of-Union, type_of-Extension}
+use Rattle.vortex_dtype.specs.Lemmas.TypeLevels.{type_of-List, type_of-FixedSizeList, type_of-Map, type_of-Struct, type_of-Union, type_of-Extension}
 use Rattle.vortex_dtype.specs.Lemmas.TypeSize.{type_size, types_size}
 use Rattle.vortex_dtype.specs.TypeOf.{as_type_trees, dtype_trees, ext_of, fields_of, map_of, type_of, variants_of}
 use Rattle.vortex_dtype.specs.TypeTree.{TypeTree, null_type, bool_type, integer_type, utf8_type, binary_type, list_type, fixed_size_list_type, map_type, struct_type, union_type, variant_type, extension_type, TypeTrees, no_types, type_then, storage, IsNullable, is_nullable, nullability_of, says_nullable}
 use Rattle.vortex_dtype.specs.declared.nullability.Nullability.{Nullability}
 use Rattle.vortex_dtype.specs.declared.nullability.Nullability.TheVariants.{NonNullable, Nullable}
-use Rattle.vortex_dtype.specs.declared.types.DType.{DType, List as List_, FixedSizeList, Map, Null, Struct, Union, Variant, Extension}
+use Rattle.vortex_dtype.specs.declared.types.DType.{DType, List as List_, FixedSizeList, Map, Struct, Union, Extension}
 use Rattle.vortex_dtype.specs.declared.types.ExtDType.{ExtDType}
 use Rattle.vortex_dtype.specs.declared.types.MapDType.{MapDType}
 use Rattle.vortex_dtype.specs.declared.types.StructFields.{StructFields}
@@ -23,12 +22,12 @@ use Rattle.vortex_value.specs.declared.unions.UnionValue.{UnionValue}
 use Rattle.vortex_value.specs.Values.RawTree.{RawTree, absent, raw_union, raw_variant, RawTrees, no_raws, raw_then}
 use Rattle.vortex_value.proofs.ValueSteps.{value_tree-Tuple, value_tree-Union}
 use Rattle.vortex_row.specs.Keys.{key}
-use Rattle.vortex_row.specs.Reading.{AllHaveValues, ArePlain, AreKeys, AreSized, HasOne, HasPlain, HasRead, HasValues, HavePlain, IfDense, IsChild, IsKey, IsPlain, IsPresent, IsStuck, Puts, Reads, entry_type}
+use Rattle.vortex_row.specs.Reading.{ArePlain, AreKeys, AreSized, HasRead, HavePlain, IsChild, IsKey, IsPlain, IsPresent, IsStuck, Puts, Reads, entry_type}
 use Rattle.vortex_row.specs.declared.reader.KeyDecodeError.{KeyDecodeError}
 use Rattle.vortex_row.specs.declared.reader.KeyDecodeError.TheVariants.{Bad, NoMemory}
 use Rattle.vortex_row.proofs.OrderLaws.{begins}
-use Rattle.vortex_row.proofs.PartSteps.{Opens, SameValues, SoFar, Takes, TupleOf, continue-child, null-read, opens-none, opens-stuck, present-read, present-stuck, reads-as, refused, so-far-end, so-far-more, so-far-none, so-far-open, so-far-stuck, some-key, some-keys, some_sized, some_value, stuck-as, tagged-opens, takes-field, tuple-opens, tuple-parts, tuple-read}
-use Rattle.vortex_row.proofs.StuckLaws.{Some, stuck-here, stuck-later, stuck-same}
+use Rattle.vortex_row.proofs.PartSteps.{SoFar, Takes, TupleOf, null-read, opens-none, opens-stuck, present-read, present-stuck, reads-as, so-far-end, so-far-more, so-far-none, so-far-open, so-far-stuck, some-keys, some_sized, tagged-opens, takes-field, tuple-opens, tuple-read}
+use Rattle.vortex_row.proofs.StuckLaws.{Some}
 use Rattle.vortex_cells.proofs.VariantSteps.{type_size_item}
 use Rattle.vortex_row.proofs.ReaderSteps.{none-left}
 
@@ -77,48 +76,11 @@ from_bare null_type v h = h
 from_bare (variant_type n) v h = h
 from_bare (extension_type id metadata t) v h = h
 
-has_bare : (t : TypeTree) → HasValues t → HasValues (bare t)
-has_bare (union_type names (type_then t ts) (id ∷ ids) n) h = h
-has_bare (union_type names no_types ids n) h = h
-has_bare (union_type names (type_then t ts) [] n) h = h
-has_bare (bool_type n) h = h
-has_bare (integer_type k n) h = h
-has_bare (utf8_type n) h = h
-has_bare (binary_type n) h = h
-has_bare (list_type e n) h = h
-has_bare (fixed_size_list_type e size n) h = h
-has_bare (map_type k w sorted n) h = h
-has_bare (struct_type names ts n) h = h
-has_bare null_type h = h
-has_bare (variant_type n) h = h
-has_bare (extension_type id metadata t) h = h
-
 -- one kind of type
-pub arm : {A : Type 0} (Has : TypeTree → Type 0) (any : Type 0) (d t : TypeTree) (view : A → RawTree) (r : Result A KeyDecodeError) (old now : List ℕ) → d ≡ t → (Has t → any) → Reads any (IsPresent (bare t)) view r old now
-    → Reads (Has d) (IsPresent d) view r old now
-arm Has any d t view r old now e weaker h =
-    subst (λ u. Reads (Has u) (IsPresent u) view r old now) (sym e)
-    (reads-as (Has t) any (bare t) t view r old now (record { to = from_bare t; from = to_bare t }) weaker h)
-
-abbrev Dense : Bool → TypeTree → Type 0
-Dense sparse t = IfDense sparse (HasValues t)
-
-pub union-arm : {A : Type 0} (sparse : Bool) (d : TypeTree) (names : List (List ℕ)) (ts : TypeTrees) (ids : List ℕ) (n : Nullability) (view : A → RawTree) (r : Result A KeyDecodeError) (old now : List ℕ) → d ≡ union_type names ts ids n
-    → Reads (IfDense sparse (HasValues (union_type [] ts ids NonNullable))) (IsPresent (union_type [] ts ids NonNullable)) view r old now → Reads (IfDense sparse (HasValues d)) (IsPresent d) view r old now
-union-arm sparse d names ts ids n view r old now e h =
-    arm (Dense sparse) (Dense sparse (union_type [] ts ids NonNullable)) d (union_type names ts ids n) view r old now e (λ f g. has_bare (union_type names ts ids n) (f g)) h
-
-pub extension-arm : {A : Type 0} (sparse : Bool) (d t : TypeTree) (id metadata : List ℕ) (view : A → RawTree) (r : Result A KeyDecodeError) (old now : List ℕ) → d ≡ extension_type id metadata t
-    → Reads (IfDense sparse (HasValues t)) (IsPresent t) view r old now → Reads (IfDense sparse (HasValues d)) (IsPresent d) view r old now
-extension-arm sparse d t id metadata view r old now e h =
-    subst (λ u. Reads (Dense sparse u) (IsPresent u) view r old now) (sym e)
-    (reads-as (Dense sparse t) (Dense sparse t) t (extension_type id metadata t) view r old now
-    (record { to = λ v p. record { valid = p.valid; present = p.present }; from = λ v p. record { valid = p.valid; present = p.present } }) (λ a. a) h)
+pub arm : {A : Type 0} (d t : TypeTree) (view : A → RawTree) (r : Result A KeyDecodeError) (old now : List ℕ) → d ≡ t → Reads (IsPresent (bare t)) view r old now → Reads (IsPresent d) view r old now
+arm d t view r old now e h = subst (λ u. Reads (IsPresent u) view r old now) (sym e) (reads-as (bare t) t view r old now (record { to = from_bare t; from = to_bare t }) h)
 
 -- a type whose present values have no keys
-
-never_there : (has : Type 0) (t : TypeTree) (old : List ℕ) → ((v : RawTree) → ¬ (IsPlain (IsPresent t) v)) → IsStuck has (IsKey (IsPresent t)) old old
-never_there has t old never = stuck-here has (IsKey (IsPresent t)) old (λ s zs rest h alike e. never h.value h.plain)
 
 pub no_null_value : (v : RawTree) → ¬ (IsPlain (IsPresent null_type) v)
 no_null_value absent h = let p = h.kind.present in cc
@@ -128,20 +90,6 @@ pub no_variant_value : (n : Nullability) (v : RawTree) → ¬ (IsPlain (IsPresen
 no_variant_value n absent h = let p = h.kind.present in cc
 no_variant_value n (raw_variant t v) h = h.untyped
 no_variant_value n _ h = h.kind.valid
-
--- nor then do the bytes go on after none
-pub never-key : (has : Type 0) (t : TypeTree) (old : List ℕ) → ¬ (HasPlain (IsPresent t)) → IsStuck has (IsKey (IsPresent t)) old old
-never-key has t old never = never_there has t old (λ v p. never (v, p))
-
-null-refused : (has : Type 0) (d : TypeTree) (old : List ℕ) → d ≡ null_type → IsStuck has (IsKey (IsPresent d)) old old
-null-refused has d old e = subst (λ t. IsStuck has (IsKey (IsPresent t)) old old) (sym e) (never_there has null_type old no_null_value)
-
-variant-refused : (has : Type 0) (d : TypeTree) (n : Nullability) (old : List ℕ) → d ≡ variant_type n → IsStuck has (IsKey (IsPresent d)) old old
-variant-refused has d n old e = subst (λ t. IsStuck has (IsKey (IsPresent t)) old old) (sym e) (never_there has (variant_type n) old (no_variant_value n))
-
-pub valueless : (has : Type 0) (d : DType) (old : List ℕ) → (d ≡ Null) ⊎ ((n : Nullability) × (d ≡ Variant n)) → IsStuck has (IsKey (IsPresent (type_of d))) old old
-valueless has d old (inl h) = null-refused has (type_of d) old (ap type_of h ∙ type_of-Null)
-valueless has d old (inr h) = variant-refused has (type_of d) h.0 old (ap type_of h.1 ∙ type_of-Variant h.0)
 
 -- the trees of types with parts
 
@@ -190,20 +138,20 @@ pub none-entries : (k w : TypeTree) → Some (AreKeys (EntriesValid k w))
 none-entries k w = some-keys (EntriesValid k w) (no_raws, record { kind = tt; held = tt; untyped = tt })
 
 -- an entry is no null
-pub entry-stuck : (has : Type 0) (k w : TypeTree) (old now : List ℕ) → IsStuck has (IsKey (IsPresent (entry_type k w))) old now → IsStuck has (IsKey (Valid (entry_type k w))) old now
-entry-stuck has k w old now stuck = present-stuck has (entry_type k w) old old now refl (λ n bs. absurd (cc)) stuck
+pub entry-stuck : (k w : TypeTree) (old now : List ℕ) → IsStuck (IsKey (IsPresent (entry_type k w))) old now → IsStuck (IsKey (Valid (entry_type k w))) old now
+entry-stuck k w old now stuck = present-stuck (entry_type k w) old old now refl (λ n bs. absurd (cc)) stuck
 
 pub not-memory : {A : Type 0} (f : KeyDecodeError) → f ≡ NoMemory → f ≡ Bad → A
 not-memory f h k = absurd (cc)
 
 -- tuples
 
-pub part-stuck : (has any : Type 0) (t : TypeTree) (All : RawTrees → Type 0) (One : RawTree → Type 0) (Rest More : RawTrees → Type 0) (vs : RawTrees) (old mid here same now : List ℕ) → TupleOf t All
-    → old ≡ 23 ∷ mid → SoFar All vs mid Rest here → same ≡ here → (has → any) → (has → Some (AreKeys All)) → (has → Some (AreKeys Rest)) → (has → Some (AreKeys More)) → Takes Rest One More
-    → (Rest no_raws → (bs : List ℕ) → here ≢ 0 ∷ bs) → IsStuck any (IsKey One) same now → IsStuck has (IsKey (IsPresent t)) old now
-part-stuck has any t All One Rest More vs old mid here same now of e so again weaker all rest more takes other stuck =
-    opens-stuck has t 23 (AreKeys All) old mid now (tuple-opens t All of) e all
-    (so-far-stuck has any All One Rest More vs mid here now so weaker rest more takes other (subst (λ xs. IsStuck any (IsKey One) xs now) again stuck))
+pub part-stuck : (t : TypeTree) (All : RawTrees → Type 0) (One : RawTree → Type 0) (Rest More : RawTrees → Type 0) (vs : RawTrees) (old mid here same now : List ℕ) → TupleOf t All
+    → old ≡ 23 ∷ mid → SoFar All vs mid Rest here → same ≡ here → Some (AreKeys All) → Some (AreKeys Rest) → Some (AreKeys More) → Takes Rest One More
+    → (Rest no_raws → (bs : List ℕ) → here ≢ 0 ∷ bs) → IsStuck (IsKey One) same now → IsStuck (IsKey (IsPresent t)) old now
+part-stuck t All One Rest More vs old mid here same now of e so again all rest more takes other stuck =
+    opens-stuck t 23 (AreKeys All) old mid now (tuple-opens t All of) e all
+    (so-far-stuck All One Rest More vs mid here now so rest more takes other (subst (λ xs. IsStuck (IsKey One) xs now) again stuck))
 
 pub end-found : (t : TypeTree) (All Rest : RawTrees → Type 0) (ps : Vec (Option ScalarValue) Global) (old mid here now : List ℕ) → TupleOf t All → old ≡ 23 ∷ mid → SoFar All (value_trees ps.items) mid Rest here
     → Rest no_raws → here ≡ 0 ∷ now → HasRead (IsPresent t) (value_tree (Tuple ps)) old now
@@ -211,22 +159,14 @@ end-found t All Rest ps old mid here now of e so none f =
     subst (λ v. HasRead (IsPresent t) v old now) (sym (value_tree-Tuple ps))
     (tuple-read t All (value_trees ps.items) old mid now of e (so-far-end All Rest (value_trees ps.items) mid here now so none f))
 
-pub end-missing : (has : Type 0) (t : TypeTree) (All Rest : RawTrees → Type 0) (vs : RawTrees) (old mid here same : List ℕ) → TupleOf t All → old ≡ 23 ∷ mid → SoFar All vs mid Rest here → same ≡ here
-    → (has → Some (AreKeys All)) → Rest no_raws → ((v : RawTree) (ws : RawTrees) → ¬ (Rest (raw_then v ws))) → ((bs : List ℕ) → here ≢ 0 ∷ bs) → IsStuck has (IsKey (IsPresent t)) old same
-end-missing has t All Rest vs old mid here same of e so again all none never other =
-    opens-stuck has t 23 (AreKeys All) old mid same (tuple-opens t All of) e all
-    (subst (λ xs. IsStuck has (AreKeys All) mid xs) (sym again) (so-far-open has All Rest vs mid here so none never other))
+pub end-missing : (t : TypeTree) (All Rest : RawTrees → Type 0) (vs : RawTrees) (old mid here same : List ℕ) → TupleOf t All → old ≡ 23 ∷ mid → SoFar All vs mid Rest here → same ≡ here
+    → Some (AreKeys All) → Rest no_raws → ((v : RawTree) (ws : RawTrees) → ¬ (Rest (raw_then v ws))) → ((bs : List ℕ) → here ≢ 0 ∷ bs) → IsStuck (IsKey (IsPresent t)) old same
+end-missing t All Rest vs old mid here same of e so again all none never other =
+    opens-stuck t 23 (AreKeys All) old mid same (tuple-opens t All of) e all
+    (subst (λ xs. IsStuck (AreKeys All) mid xs) (sym again) (so-far-open All Rest vs mid here so none never other))
 
-pub head-missing : (has : Type 0) (t : TypeTree) (All : RawTrees → Type 0) (old now : List ℕ) → TupleOf t All → now ≡ old → ((bs : List ℕ) → old ≢ 23 ∷ bs) → IsStuck has (IsKey (IsPresent t)) old now
-head-missing has t All old now of same other = opens-none has t 23 (AreKeys All) old now (tuple-opens t All of) same other
-
--- nor are there such parts
-pub no-tuple : (has : Type 0) (t : TypeTree) (All : RawTrees → Type 0) (old : List ℕ) → TupleOf t All → ¬ (HavePlain All) → IsStuck has (IsKey (IsPresent t)) old old
-no-tuple has t All old of never = never-key has t old (λ h. never (tuple-parts t All of h))
-
-pub no-tagged : (has : Type 0) (ids : List ℕ) (ts : TypeTrees) (old : List ℕ) → ¬ (HasOne (IsChild ids ts)) → IsStuck has (IsKey (IsPresent (union_type [] ts ids NonNullable))) old old
-no-tagged has ids ts old never =
-    never-key has (union_type [] ts ids NonNullable) old (λ h. let (q, child, is) = (tagged-opens ids ts).split h.0 h.1 in never (q, child))
+pub head-missing : (t : TypeTree) (All : RawTrees → Type 0) (old now : List ℕ) → TupleOf t All → now ≡ old → ((bs : List ℕ) → old ≢ 23 ∷ bs) → IsStuck (IsKey (IsPresent t)) old now
+head-missing t All old now of same other = opens-none t 23 (AreKeys All) old now (tuple-opens t All of) same other
 
 -- the parts of each kind of type that are still to come
 
@@ -254,16 +194,6 @@ fields-from (suc i) (t ∷ ts) h = fields-from i ts (later-fields (type_of t) (d
 
 pub rest-fields : (i : ℕ) (ts : List DType) → HavePlain (FieldsValid (dtype_trees ts)) → Some (AreKeys (FieldsValid (dtype_trees (drop i ts))))
 rest-fields i ts h = some-keys (FieldsValid (dtype_trees (drop i ts))) (fields-from i ts h)
-
-all-drop : (i : ℕ) (ts : List DType) → AllHaveValues (dtype_trees ts) → AllHaveValues (dtype_trees (drop i ts))
-all-drop zero ts h = h
-all-drop (suc i) [] h = h
-all-drop (suc i) (t ∷ ts) h = all-drop i ts h.1
-
-pub has-field : (i : ℕ) (ts : List DType) (t : DType) → i < length ts → t ≡ get_or ts i t → AllHaveValues (dtype_trees ts) → HasValues (type_of t)
-has-field i ts t less is h =
-    let e : drop i ts ≡ t ∷ drop (suc i) ts = drop-cons ts i t less ∙ ap (λ d. d ∷ drop (suc i) ts) (sym is) in
-    (subst (λ ds. AllHaveValues (dtype_trees ds)) e (all-drop i ts h)).0
 
 pub takes-field_at : (i : ℕ) (ts : List DType) (t : DType) → i < length ts → t ≡ get_or ts i t → Takes (FieldsValid (dtype_trees (drop i ts))) (Valid (type_of t)) (FieldsValid (dtype_trees (drop (i + 1) ts)))
 takes-field_at i ts t less is =
@@ -301,49 +231,11 @@ child-size id (i ∷ is) (type_then u us) t e = by_test (i == id) e (child-size 
     by_test true h go = let same : t ≡ u = same_Some t u (sym h) in let size : type_size t ≡ type_size u = ap type_size same in omega arith
     by_test false h go = let rest = go h in omega arith
 
--- the values that a child's type has, if the union's types have values
+pub union-none : (ids : List ℕ) (ts : TypeTrees) (old now : List ℕ) → now ≡ old → ((bs : List ℕ) → old ≢ 24 ∷ bs) → IsStuck (IsKey (IsPresent (union_type [] ts ids NonNullable))) old now
+union-none ids ts old now same other = opens-none (union_type [] ts ids NonNullable) 24 (IsChild ids ts) old now (tagged-opens ids ts) same other
 
-child-has : (id : ℕ) (ids : List ℕ) (ts : TypeTrees) (t : TypeTree) → AllHaveValues ts → type_with id ids ts ≡ Present t → HasValues t
-child-has id [] ts t h e = cc
-child-has id (i ∷ is) no_types t h e = cc
-child-has id (i ∷ is) (type_then u us) t h e = by_test (i == id) e (child-has id is us t h.1)
-  where
-    by_test : (b : Bool) → (if b then Present u else type_with id is us) ≡ Present t → (type_with id is us ≡ Present t → HasValues t) → HasValues t
-    by_test true f go = subst HasValues (same_Some u t f) h.0
-    by_test false f go = go f
-
-pub union-has : (id : ℕ) (ids : List ℕ) (ts : TypeTrees) (t : TypeTree) → HasValues (union_type [] ts ids NonNullable) → type_with id ids ts ≡ Present t → HasValues t
-union-has id (i ∷ is) (type_then u us) t h e = child-has id (i ∷ is) (type_then u us) t (h.1, h.2) e
-union-has id [] ts t h e = cc
-union-has id (i ∷ is) no_types t h e = cc
-
-pub some-child : (ids : List ℕ) (ts : TypeTrees) → HasValues (union_type [] ts ids NonNullable) → Some (IsChild ids ts)
-some-child ids ts h = let (v, plain) = some_value (union_type [] ts ids NonNullable) h in child_in v plain
-  where
-    child_in : (v : RawTree) → IsPlain (Valid (union_type [] ts ids NonNullable)) v → Some (IsChild ids ts)
-    child_in absent p = let f = p.kind in absurd (cc)
-    child_in v p =
-        let (q, child, is) = (tagged-opens ids ts).split v (record { kind = record { valid = p.kind; present = refl }; held = p.held; untyped = p.untyped }) in
-        (q, child)
-
-pub union-none : (has : Type 0) (ids : List ℕ) (ts : TypeTrees) (old now : List ℕ) → now ≡ old → ((bs : List ℕ) → old ≢ 24 ∷ bs) → IsStuck has (IsKey (IsPresent (union_type [] ts ids NonNullable))) old now
-union-none has ids ts old now same other = opens-none has (union_type [] ts ids NonNullable) 24 (IsChild ids ts) old now (tagged-opens ids ts) same other
-
-pub id-stuck : (has : Type 0) (ids : List ℕ) (ts : TypeTrees) (old mid now : List ℕ) → old ≡ 24 ∷ mid → (has → Some (IsChild ids ts)) → IsStuck (Unit {0}) (IsChild ids ts) mid now
-    → IsStuck has (IsKey (IsPresent (union_type [] ts ids NonNullable))) old now
-id-stuck has ids ts old mid now e some stuck =
-    opens-stuck has (union_type [] ts ids NonNullable) 24 (IsChild ids ts) old mid now (tagged-opens ids ts) e some
-    (stuck-same has (Unit {0}) (IsChild ids ts) (IsChild ids ts) mid now (λ a. tt) (λ s h. h) (λ s h. h) stuck)
-
-pub child-stuck : (sparse : Bool) (id : ℕ) (ids : List ℕ) (ts : TypeTrees) (t : TypeTree) (old mid here now : List ℕ) → old ≡ 24 ∷ mid → mid ≡ id ∷ here → type_with id ids ts ≡ Present t → id < 256
-    → (IfDense sparse (HasValues (union_type [] ts ids NonNullable)) → Some (IsChild ids ts)) → (IfDense sparse (HasValues t) → HasPlain (Valid t))
-    → IsStuck (IfDense sparse (HasValues t)) (IsKey (Valid t)) here now → IsStuck (IfDense sparse (HasValues (union_type [] ts ids NonNullable))) (IsKey (IsPresent (union_type [] ts ids NonNullable))) old now
-child-stuck sparse id ids ts t old mid here now e f has small some one stuck =
-    let down : Dense sparse (union_type [] ts ids NonNullable) → Dense sparse t = λ h g. union-has id ids ts t (h g) has in
-    opens-stuck (Dense sparse (union_type [] ts ids NonNullable)) (union_type [] ts ids NonNullable) 24 (IsChild ids ts) old mid now (tagged-opens ids ts) e some
-    (stuck-later (Dense sparse (union_type [] ts ids NonNullable)) (id ∷ []) (IsChild ids ts) (IsKey (Valid t)) mid here now (continue-child id ids ts t small has) f
-    (λ h. some-key (Valid t) (one (down h)))
-    (stuck-same (Dense sparse (union_type [] ts ids NonNullable)) (Dense sparse t) (IsKey (Valid t)) (IsKey (Valid t)) here now down (λ s h. h) (λ s h. h) stuck))
+pub id-stuck : (ids : List ℕ) (ts : TypeTrees) (old mid now : List ℕ) → old ≡ 24 ∷ mid → Some (IsChild ids ts) → IsStuck (IsChild ids ts) mid now → IsStuck (IsKey (IsPresent (union_type [] ts ids NonNullable))) old now
+id-stuck ids ts old mid now e some stuck = opens-stuck (union_type [] ts ids NonNullable) 24 (IsChild ids ts) old mid now (tagged-opens ids ts) e some stuck
 
 pub child-read : (id : ℕ) (ids : List ℕ) (ts : TypeTrees) (t : TypeTree) (v : RawTree) (old mid here now : List ℕ) → old ≡ 24 ∷ mid → mid ≡ id ∷ here → type_with id ids ts ≡ Present t → id < 256
     → HasRead (Valid t) v here now → HasRead (IsPresent (union_type [] ts ids NonNullable)) (raw_union id v) old now
@@ -374,35 +266,9 @@ null-taken t old now b c e h taken k = null-read t old now (takes-null t b e h) 
 
 -- a part that is put to the others
 
-pub pushed : (has : Type 0) (One : RawTree → Type 0) (r : Result Unit KeyDecodeError) (parts more : List (Option ScalarValue)) (part : Option ScalarValue) (old now : List ℕ) → HasRead One (raw_of part) old now
-    → MatchResult r (λ u. more ≡ parts ++ part ∷ []) (λ e. e ≡ NoMemory) → Puts has One r parts more old now
-pushed has One (Ok u) parts more part old now h e = (part, e, h)
-pushed has One (Err f) parts more part old now h e = λ bad. not-memory f e bad
-
-pub puts-refused : (has : Type 0) (One : RawTree → Type 0) (r : Result Unit KeyDecodeError) (e : KeyDecodeError) (parts more : List (Option ScalarValue)) (old now : List ℕ) → IsErr r × IsErrAnd r (λ f. f ≡ e) → (e ≡ Bad → IsStuck has (IsKey One) old now)
-    → Puts has One r parts more old now
-puts-refused has One (Ok u) e parts more old now h g = absurd (true≢false (sym h.0))
-puts-refused has One (Err f) e parts more old now h g = λ bad. g (sym h.1 ∙ bad)
-
-pub puts-present : (has : Type 0) (t : TypeTree) (r : Result Unit KeyDecodeError) (parts more : List (Option ScalarValue)) (old mid now : List ℕ) → mid ≡ old → (IsNullable t → (bs : List ℕ) → old ≢ 1 ∷ bs) → Puts has (IsPresent t) r parts more mid now
-    → Puts has (Valid t) r parts more old now
-puts-present has t (Ok u) parts more old mid now same other (part, e, h) = (part, e, present-read t (raw_of part) old mid now same h)
-puts-present has t (Err f) parts more old mid now same other h = λ bad. present-stuck has t old mid now same other (h bad)
-
-pub puts-arm : (Has : TypeTree → Type 0) (any : Type 0) (d t : TypeTree) (r : Result Unit KeyDecodeError) (parts more : List (Option ScalarValue)) (old now : List ℕ) → d ≡ t → (Has t → any) → Puts any (IsPresent (bare t)) r parts more old now
-    → Puts (Has d) (IsPresent d) r parts more old now
-puts-arm Has any d t r parts more old now e weaker h = subst (λ u. Puts (Has u) (IsPresent u) r parts more old now) (sym e) (to_type r h)
-  where
-    same : SameValues (bare t) t
-    same = record { to = from_bare t; from = to_bare t }
-
-    to_type : (r : Result Unit KeyDecodeError) → Puts any (IsPresent (bare t)) r parts more old now → Puts (Has t) (IsPresent t) r parts more old now
-    to_type (Ok u) (part, e, h) = (part, e, record { plain = record { kind = from_bare t (raw_of part) h.plain.kind; held = h.plain.held; untyped = h.plain.untyped }; is = h.is })
-    to_type (Err f) h = λ bad. stuck-as (Has t) any (bare t) t old now same weaker (h bad)
-
--- a refusal says why
-pub err-stuck : {A : Type 0} (P : A → Type 0) (Why : Type 0) (r : Result A KeyDecodeError) (e : KeyDecodeError) → IsErr r × IsErrAnd r (λ f. f ≡ e) → Why → MatchResult r P (λ f. Why)
-err-stuck P Why (Ok x) e h why = absurd (true≢false (sym h.0))
-err-stuck P Why (Err f) e h why = why
+pub pushed : (One : RawTree → Type 0) (r : Result Unit KeyDecodeError) (parts more : List (Option ScalarValue)) (part : Option ScalarValue) (old now : List ℕ) → HasRead One (raw_of part) old now
+    → MatchResult r (λ u. more ≡ parts ++ part ∷ []) (λ e. e ≡ NoMemory) → Puts One r parts more old now
+pushed One (Ok u) parts more part old now h e = (part, e, h)
+pushed One (Err f) parts more part old now h e = λ bad. not-memory f e bad
 
 pub ruleset shown = (null-read, present-read, present-stuck, value_tree-Tuple, value_tree-Union, type_size_item, child-size, type_of-List, type_of-FixedSizeList, type_of-Map, type_of-Struct, type_of-Union, type_of-Extension)

@@ -26,8 +26,8 @@ pub record HasColumn (o : SortOptions) (t : TypeTree) (v : RawTree) (bytes : Lis
   pub count : n ≡ length (key_with o (content v))
 
 -- why bytes are refused: no memory, or an offset from which they go on as no string does
-abbrev pub IsRefusal : Type 0 → (List ℕ → Type 0) → List ℕ → RowError → Type 0
-IsRefusal has_values Is bytes e = (e ≡ OutOfMemory) ⊎ ((place : ℕ) × (e ≡ BadKey place) × (place ≤ length bytes) × IsStuck has_values Is bytes (drop place bytes))
+abbrev pub IsRefusal : (List ℕ → Type 0) → List ℕ → RowError → Type 0
+IsRefusal Is bytes e = (e ≡ OutOfMemory) ⊎ ((place : ℕ) × (e ≡ BadKey place) × (place ≤ length bytes) × IsStuck Is bytes (drop place bytes))
 
 -- as many values as types, each such a value of its type
 abbrev pub ArePlainOf : TypeTrees → List RawTree → Type 0
@@ -65,6 +65,10 @@ pub record HasColumnAt (o : SortOptions) (t : TypeTree) (x : Scalar) (bytes : Li
   pub after : next ≡ place + width
 
 -- why bytes from an offset on are refused; the offset of a bad byte counts from their first
-abbrev pub IsRefusalAt : Type 0 → (List ℕ → Type 0) → List ℕ → ℕ → RowError → Type 0
-IsRefusalAt has_values Is bytes start e =
-    (e ≡ OutOfMemory) ⊎ ((place : ℕ) × (e ≡ BadKey (start + place)) × (place ≤ length (drop start bytes)) × IsStuck has_values Is (drop start bytes) (drop place (drop start bytes)))
+abbrev pub IsRefusalAt : (List ℕ → Type 0) → List ℕ → ℕ → RowError → Type 0
+IsRefusalAt Is bytes start e =
+    (e ≡ OutOfMemory) ⊎ ((place : ℕ) × (e ≡ BadKey (start + place)) × (place ≤ length (drop start bytes)) × IsStuck Is (drop start bytes) (drop place (drop start bytes)))
+
+-- the refusal of a row by that of a column: where rows have no value, their first byte is bad
+abbrev pub IsOfRow : Type 0 → RowError → RowError → Type 0
+IsOfRow Rows column e = ((e ≡ column) × ((place : ℕ) → column ≡ BadKey place → Rows)) ⊎ ((e ≡ BadKey 0) × ¬ Rows)

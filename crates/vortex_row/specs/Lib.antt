@@ -13,7 +13,6 @@ pub mod Places
 pub mod Plain
 pub mod Reading
 pub mod Slots
-pub mod Sparse
 pub mod Steps
 pub mod Strings
 pub mod Typed

@@ -1,10 +1,8 @@
 -- What the steps of a decoder answer: what they read, or that the bytes go on as no key does.
-use Rattle.std.specs.Prelude.{◌≡◌, ℕ, ◌<◌, ◌⊎◌, List, [], ◌∷◌, ◌++◌, MatchResult, Option, Result, Bool, false, true, Some}
+use Rattle.std.specs.Prelude.{◌≡◌, ℕ, ◌<◌, ◌⊎◌, List, [], ◌∷◌, ◌++◌, MatchResult, Option, Result, Bool, false, true, None, Some}
 use Rattle.vortex_dtype.specs.TypeTree.{TypeTree, list_type, fixed_size_list_type, map_type, struct_type, union_type, variant_type, extension_type, TypeTrees, no_types, type_then}
 use Rattle.vortex_dtype.specs.declared.nullability.Nullability.TheVariants.{NonNullable}
-use Rattle.vortex_cells.specs.Variants.{HasByteIds, HaveByteIds}
 use Rattle.vortex_value.specs.Equality.{HasNoTyped, HaveNoTyped}
-use Rattle.vortex_value.specs.TypesWithin.{HasNoVariant, HaveNoVariant}
 use Rattle.vortex_value.specs.Validity.{EachValid, Valid, type_with}
 use Rattle.vortex_value.specs.Values.Content.{content, contents}
 use Rattle.vortex_value.specs.Values.RawOf.{raw_of}
@@ -15,6 +13,8 @@ use Rattle.vortex_row.specs.Keys.{inverted, key, keys}
 use Rattle.vortex_row.specs.declared.reader.KeyDecodeError.{KeyDecodeError}
 use Rattle.vortex_row.specs.declared.reader.KeyDecodeError.TheVariants.{Bad}
 use Rattle.vortex_row.specs.declared.reader.Reader.{Reader}
+use Rattle.vortex_row.specs.declared.reader.ValueError.{ValueError}
+use Rattle.vortex_row.specs.declared.reader.ValueError.TheVariants.{Key, NoValue}
 
 -- what is left to be read
 abbrev pub left : Reader → List ℕ
@@ -26,12 +26,12 @@ BeginAlike [] [] = Unit {0}
 BeginAlike (x ∷ xs) (y ∷ ys) = x ≡ y
 BeginAlike _ _ = ⊥
 
--- Of what was to be read, the bytes before now may begin one of the strings, if each type has values; and what now begins
--- with, a byte or the end, comes next in none of them.
-pub record IsStuck (has_values : Type 0) (Is : List ℕ → Type 0) (old now : List ℕ) : Type 0 where
+-- Of what was to be read, the bytes before now, if there are any, may begin one of the strings; and what now begins with, a
+-- byte or the end, comes next in none of them.
+pub record IsStuck (Is : List ℕ → Type 0) (old now : List ℕ) : Type 0 where
   pub done : List ℕ
   pub split : old ≡ done ++ now
-  pub begins : has_values → (done ≡ []) ⊎ ((more : List ℕ) × Is (done ++ more))
+  pub begins : (done ≡ []) ⊎ ((more : List ℕ) × Is (done ++ more))
   pub none : (s zs rest : List ℕ) → Is s → BeginAlike now zs → ¬ (done ++ zs ≡ s ++ rest)
 
 -- after front come just the strings of Rest: with them it is one of the strings, and no other string agrees with it
@@ -84,18 +84,68 @@ pub record HaveRead (AreAll : RawTrees → Type 0) (vs : RawTrees) (old now : Li
   pub plain : ArePlain AreAll vs
   pub is : old ≡ keys (contents vs) ++ now
 
+-- there is a value of this kind that a key can have
+abbrev pub HasPlain : (RawTree → Type 0) → Type 0
+HasPlain IsOne = (v : RawTree) × IsPlain IsOne v
+
+-- there are parts of this kind that keys can have
+abbrev pub HavePlain : (RawTrees → Type 0) → Type 0
+HavePlain AreAll = (vs : RawTrees) × ArePlain AreAll vs
+
 -- a value of this kind is read, or memory is refused, or the bytes go on as no key of such a value
-abbrev pub Reads : {A : Type 0} → Type 0 → (RawTree → Type 0) → (A → RawTree) → Result A KeyDecodeError → List ℕ → List ℕ → Type 0
-Reads has_values IsOne view r old now = MatchResult r (λ x. HasRead IsOne (view x) old now) (λ e. e ≡ Bad → IsStuck has_values (IsKey IsOne) old now)
+abbrev pub Reads : {A : Type 0} → (RawTree → Type 0) → (A → RawTree) → Result A KeyDecodeError → List ℕ → List ℕ → Type 0
+Reads IsOne view r old now = MatchResult r (λ x. HasRead IsOne (view x) old now) (λ e. e ≡ Bad → IsStuck (IsKey IsOne) old now)
 
 -- a value of this kind is read into its place, or memory is refused, or the bytes go on as no key of such a value
-abbrev pub ReadsInto : Type 0 → (RawTree → Type 0) → Result Unit KeyDecodeError → RawTree → List ℕ → List ℕ → Type 0
-ReadsInto has_values IsOne r v old now = MatchResult r (λ u. HasRead IsOne v old now) (λ e. e ≡ Bad → IsStuck has_values (IsKey IsOne) old now)
+abbrev pub ReadsInto : (RawTree → Type 0) → Result Unit KeyDecodeError → RawTree → List ℕ → List ℕ → Type 0
+ReadsInto IsOne r v old now = MatchResult r (λ u. HasRead IsOne v old now) (λ e. e ≡ Bad → IsStuck (IsKey IsOne) old now)
 
 -- a value of this kind is read and put to the others, or memory is refused, or the bytes go on as no key of such a value
-abbrev pub Puts : Type 0 → (RawTree → Type 0) → Result Unit KeyDecodeError → List (Option ScalarValue) → List (Option ScalarValue) → List ℕ → List ℕ → Type 0
-Puts has_values IsOne r parts more old now =
-    MatchResult r (λ u. (part : Option ScalarValue) × (more ≡ parts ++ part ∷ []) × HasRead IsOne (raw_of part) old now) (λ e. e ≡ Bad → IsStuck has_values (IsKey IsOne) old now)
+abbrev pub Puts : (RawTree → Type 0) → Result Unit KeyDecodeError → List (Option ScalarValue) → List (Option ScalarValue) → List ℕ → List ℕ → Type 0
+Puts IsOne r parts more old now =
+    MatchResult r (λ u. (part : Option ScalarValue) × (more ≡ parts ++ part ∷ []) × HasRead IsOne (raw_of part) old now) (λ e. e ≡ Bad → IsStuck (IsKey IsOne) old now)
+
+-- the Boolean says whether this is so
+abbrev pub Tells : Bool → Type 0 → Type 0
+Tells true P = P
+Tells false P = ¬ P
+
+-- why no value of this kind is read: there is none, or memory is refused, or the bytes go on as no key of one
+abbrev pub Refuses : (RawTree → Type 0) → ValueError → List ℕ → List ℕ → Type 0
+Refuses IsOne NoValue old now = ¬ (HasPlain IsOne)
+Refuses IsOne (Key e) old now = e ≡ Bad → HasPlain IsOne × IsStuck (IsKey IsOne) old now
+
+-- a value of this kind is read, or it is told why none is
+abbrev pub ReadsOne : {A : Type 0} → (RawTree → Type 0) → (A → RawTree) → Result A ValueError → List ℕ → List ℕ → Type 0
+ReadsOne IsOne view r old now = MatchResult r (λ x. HasRead IsOne (view x) old now) (λ e. Refuses IsOne e old now)
+
+-- a value of this kind is read and put to the others, or it is told why none is
+abbrev pub PutsOne : (RawTree → Type 0) → Result Unit ValueError → List (Option ScalarValue) → List (Option ScalarValue) → List ℕ → List ℕ → Type 0
+PutsOne IsOne r parts more old now = MatchResult r (λ u. (part : Option ScalarValue) × (more ≡ parts ++ part ∷ []) × HasRead IsOne (raw_of part) old now) (λ e. Refuses IsOne e old now)
+
+-- the refusal of bytes, of a kind that has values or has none
+abbrev pub bad_or_none : Bool → ValueError
+bad_or_none true = Key Bad
+bad_or_none false = NoValue
+
+-- the refusal of a whole by that of a part: those before it have values, and those after it have them or not
+abbrev pub of_whole : ValueError → Bool → ValueError
+of_whole (Key Bad) has_rest = bad_or_none has_rest
+of_whole e has_rest = e
+
+-- it is that of a whole, by that of a part, if this is what comes after that part
+abbrev pub IsOfWhole : ValueError → Type 0 → ValueError → Type 0
+IsOfWhole part Rest e = (b : Bool) × (e ≡ of_whole part b) × Tells b Rest
+
+-- where no value need come: if there is none, the byte at start is bad
+abbrev pub GoesBack : List ℕ → ValueError → KeyDecodeError → List ℕ → List ℕ → Type 0
+GoesBack start NoValue e old now = (e ≡ Bad) × (now ≡ start)
+GoesBack start (Key f) e old now = (e ≡ f) × (now ≡ old)
+
+-- where one of several may come: if there is not that one, the byte at start is bad, and the others are there or not
+abbrev pub GoesBackIn : Type 0 → List ℕ → ValueError → ValueError → List ℕ → List ℕ → Type 0
+GoesBackIn Others start NoValue e old now = (b : Bool) × (e ≡ bad_or_none b) × Tells b Others × (now ≡ start)
+GoesBackIn Others start (Key f) e old now = (e ≡ Key f) × (now ≡ old)
 
 -- the type has values that keys can have: no variant stands in it, and each union in it has a variant, whose id is a byte
 abbrev mutual
@@ -115,26 +165,6 @@ abbrev mutual
   AllHaveValues no_types = Unit {0}
   AllHaveValues (type_then t ts) = HasValues t × AllHaveValues ts
 
--- this holds of types that are not sparse: each union in them has a variant
-abbrev pub IfDense : Bool → Type 0 → Type 0
-IfDense is_sparse P = is_sparse ≡ false → P
-
--- no variant stands in the type, and the first id of each union in it is a byte
-abbrev pub IsKeyed : TypeTree → Type 0
-IsKeyed t = HasNoVariant t × HasByteIds t
-
--- and so of each of the types
-abbrev pub AreKeyed : TypeTrees → Type 0
-AreKeyed ts = HaveNoVariant ts × HaveByteIds ts
-
--- there is a value of this kind that a key can have
-abbrev pub HasPlain : (RawTree → Type 0) → Type 0
-HasPlain IsOne = (v : RawTree) × IsPlain IsOne v
-
--- there are parts of this kind that keys can have
-abbrev pub HavePlain : (RawTrees → Type 0) → Type 0
-HavePlain AreAll = (vs : RawTrees) × ArePlain AreAll vs
-
 -- there is such a string
 abbrev pub HasOne : (List ℕ → Type 0) → Type 0
 HasOne Is = (s : List ℕ) × Is s
@@ -145,10 +175,10 @@ pub record HasChild (id : ℕ) (ids : List ℕ) (ts : TypeTrees) : Type 0 where
   pub has : type_with id ids ts ≡ Some type
   pub value : HasPlain (Valid type)
 
--- the Boolean says whether this is so
-abbrev pub Tells : Bool → Type 0 → Type 0
-Tells true P = P
-Tells false P = ¬ P
+-- the type with this id, if there is an id, has no such value
+abbrev pub LacksChild : Option ℕ → List ℕ → TypeTrees → Type 0
+LacksChild None ids ts = Unit {0}
+LacksChild (Some id) ids ts = ¬ (HasChild id ids ts)
 
 -- a value of the type that is no null
 pub record IsPresent (t : TypeTree) (v : RawTree) : Type 0 where

@@ -1,9 +1,9 @@
 //! Scalars from their keys.
 
 mod columns;
+mod inhabited;
 mod leaves;
 mod numbers;
-mod sparse;
 mod strings;
 mod texts;
 mod values;

@@ -38,6 +38,25 @@ impl<T: Drop> From<AllocFailed<T>> for KeyDecodeError {
     }
 }
 
+/// Why no value of a type was read.
+#[derive(Clone, Copy)]
+pub(crate) enum ValueError {
+    /// The type has values, but none was read.
+    Key(KeyDecodeError),
+    /// The type has no value.
+    NoValue,
+}
+
+impl From<KeyDecodeError> for ValueError {
+    ghost use Rattle.vortex_row.specs.declared.reader.ValueError.TheVariants.{Key};
+
+    ghost from_gives = { λ error e. e ≡ Key error };
+
+    fn from(error: KeyDecodeError) -> ValueError {
+        ValueError::Key(error)
+    }
+}
+
 /// Bytes that are read from the front, each inverted if the column is descending.
 #[derive(Clone, Copy)]
 pub(crate) struct Reader<'a> {

@@ -148,7 +148,8 @@ fn expect_keys(values: &[ScalarRef<'_>]) -> Result<(), RowError>
     ensures ordered { OnOk result (All (λ x. HasNoVariant (ref_type x)) values.now) }
     ensures untyped { OnOk result (All HasNoTyped (map ref_content values.now)) }
     ensures keyed { OnOk result (All (λ x. HasKey (ref_type x) (ref_content x)) values.now) }
-    ensures refused { IfErr result (λ e. (e ≡ HasVariant) × ¬ (All (λ x. HasKey (ref_type x) (ref_content x)) values.now)) }
+    ensures refused { IfErr result (λ e. (e ≡ HasVariant)
+        × ¬ (All (λ x. HasKey (ref_type x) (ref_content x)) values.now)) }
 {
     for value in values {
         expect_key(*value)?;

@@ -2,10 +2,9 @@
 //! have no keys.
 
 ghost use Rattle.std.specs.Prelude.{◌≡◌, Err, OnOk, IfErr, false};
-ghost use Rattle.vortex_row.specs.Words.{HasKey, HasNoTyped, HasNoVariant, HasVariant, HaveNoVariant, content, contents};
-ghost use Rattle.vortex_row.specs.Words.{dtype_trees, has_typed, has_variant, have_typed, lent_raw, ref_content, ref_type};
-ghost use Rattle.vortex_row.specs.Words.{type_of, value_tree, value_trees};
-ghost use Rattle.vortex_cells.specs.Variants.{HasByteIds, HaveByteIds};
+ghost use Rattle.vortex_row.specs.Words.{HasKey, HasNoTyped, HasNoVariant, HasVariant, HaveNoVariant, content};
+ghost use Rattle.vortex_row.specs.Words.{contents, dtype_trees, has_typed, has_variant, have_typed, lent_raw};
+ghost use Rattle.vortex_row.specs.Words.{ref_content, ref_type, type_of, value_tree, value_trees};
 
 use crate::error::RowError;
 use vortex_cells::{has_variant, have_variant};
@@ -15,8 +14,7 @@ use vortex_value::{ScalarRef, ScalarValue};
 /// Whether the type has parts or is a variant. If not, no call has to look into it.
 #[inline(always)]
 fn may_hold_variant(dtype: &DType) -> bool
-    ensures none { result ≡ false → has_variant (type_of dtype.now) ≡ false }
-    ensures ids { result ≡ false → HasByteIds (type_of dtype.now) }
+    ensures { result ≡ false → has_variant (type_of dtype.now) ≡ false }
 {
     match dtype {
         DType::Bool(_) | DType::Primitive(_, _) | DType::Utf8(_) | DType::Binary(_) => false,
@@ -29,7 +27,6 @@ fn may_hold_variant(dtype: &DType) -> bool
 #[inline(always)]
 pub(crate) fn expect_no_variant(dtype: &DType) -> Result<(), RowError>
     ensures ordered { OnOk result (HasNoVariant (type_of dtype.now)) }
-    ensures ids { OnOk result (HasByteIds (type_of dtype.now)) }
     ensures refused { IfErr result (λ e. (e ≡ HasVariant) × ¬ (HasNoVariant (type_of dtype.now))) }
 {
     if may_hold_variant(dtype) && has_variant(dtype) {
@@ -42,7 +39,6 @@ pub(crate) fn expect_no_variant(dtype: &DType) -> Result<(), RowError>
 #[tactic(auto, using(vortex_cells::proofs::VariantSteps::decided))]
 pub(crate) fn expect_no_variants(dtypes: &[DType]) -> Result<(), RowError>
     ensures ordered { OnOk result (HaveNoVariant (dtype_trees dtypes.now)) }
-    ensures ids { OnOk result (HaveByteIds (dtype_trees dtypes.now)) }
     ensures refused { IfErr result
         (λ e. (e ≡ HasVariant) × ¬ (HaveNoVariant (dtype_trees dtypes.now))) }
 {
@@ -118,7 +114,8 @@ pub(crate) fn expect_key(value: ScalarRef<'_>) -> Result<(), RowError>
     ensures ordered { OnOk result (HasNoVariant (ref_type value.entry)) }
     ensures untyped { OnOk result (HasNoTyped (ref_content value.entry)) }
     ensures keyed { OnOk result (HasKey (ref_type value.entry) (ref_content value.entry)) }
-    ensures refused { IfErr result (λ e. (e ≡ HasVariant) × ¬ (HasKey (ref_type value.entry) (ref_content value.entry))) }
+    ensures refused { IfErr result
+        (λ e. (e ≡ HasVariant) × ¬ (HasKey (ref_type value.entry) (ref_content value.entry))) }
 {
     expect_no_variant(value.dtype())?;
     expect_untyped(value)

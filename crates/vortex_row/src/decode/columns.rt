@@ -3,11 +3,10 @@
 ghost use Rattle.std.specs.Prelude.{◌≡◌, ◌≢◌, ◌≤◌, ◌∷◌, ℕ, List, MatchResult, false, length, true};
 ghost use Rattle.vortex_row.specs.ColumnReading.{AreColumnKeys, HasColumn, HasColumnAt, HasRow, IsColumnKey, IsRefusal};
 ghost use Rattle.vortex_row.specs.ColumnReading.{IsRefusalAt};
-ghost use Rattle.vortex_row.specs.Reading.{AreKeyed, IsKeyed};
 ghost use Rattle.vortex_row.specs.Words.{IsNullable, OutOfMemory, absent, dtype_trees, null_byte, raw_of, scalar_raw};
 ghost use Rattle.vortex_row.specs.Words.{scalar_type, type_of};
 
-use super::sparse::expect_row;
+use super::inhabited::of_row;
 use super::values::read_into;
 use crate::error::RowError;
 use crate::options::SortOptions;
@@ -44,8 +43,7 @@ fn read_column(
 ) -> Result<usize, RowError>
     ensures { MatchResult result
         (λ n. HasColumn options (type_of dtype.now) (raw_of place.new) bytes.now n)
-        (λ e. IsRefusal (IsKeyed (type_of dtype.now))
-        (IsColumnKey options (type_of dtype.now)) bytes.now e) }
+        (λ e. IsRefusal (IsColumnKey options (type_of dtype.now)) bytes.now e) }
 {
     if begins_with_null(dtype, options, bytes) {
         *place = None;
@@ -114,8 +112,7 @@ pub(super) fn decode_column_into(
     ensures { MatchResult result
         (λ n. (scalar_type scalar.new ≡ type_of dtype.now)
         × HasColumn options (type_of dtype.now) (scalar_raw scalar.new) bytes.now n)
-        (λ e. IsRefusal (IsKeyed (type_of dtype.now))
-        (IsColumnKey options (type_of dtype.now)) bytes.now e) }
+        (λ e. IsRefusal (IsColumnKey options (type_of dtype.now)) bytes.now e) }
 {
     let taken = read_column(alloc, dtype, options, bytes, &mut scalar.value)?;
     if !are_one_leaf(&scalar.dtype, dtype) {
@@ -135,8 +132,7 @@ pub(super) fn decode_column(
     ensures { MatchResult result
         (λ p. (scalar_type p.0 ≡ type_of dtype.now)
         × HasColumn options (type_of dtype.now) (scalar_raw p.0) bytes.now p.1)
-        (λ e. IsRefusal (IsKeyed (type_of dtype.now))
-        (IsColumnKey options (type_of dtype.now)) bytes.now e) }
+        (λ e. IsRefusal (IsColumnKey options (type_of dtype.now)) bytes.now e) }
 {
     let mut scalar = Scalar {
         dtype: DType::Null,
@@ -164,8 +160,7 @@ fn decode_at(
     requires { place ≤ length bytes.now }
     ensures { MatchResult result
         (λ p. HasColumnAt options (type_of dtype.now) p.0 bytes.now place p.1)
-        (λ e. IsRefusalAt (IsKeyed (type_of dtype.now))
-        (IsColumnKey options (type_of dtype.now)) bytes.now place e) }
+        (λ e. IsRefusalAt (IsColumnKey options (type_of dtype.now)) bytes.now place e) }
 {
     match decode_column(alloc, dtype, options, bytes_from(bytes, place)) {
         Ok((scalar, taken)) => Ok((scalar, place + taken)),
@@ -188,16 +183,18 @@ pub(super) fn decode_columns(
     requires { length dtypes.now ≡ length options.now }
     ensures { MatchResult result
         (λ p. HasRow options.now (dtype_trees dtypes.now) p.0.items bytes.now p.1)
-        (λ e. IsRefusal (AreKeyed (dtype_trees dtypes.now))
-        (AreColumnKeys options.now (dtype_trees dtypes.now)) bytes.now e) }
+        (λ e. IsRefusal (AreColumnKeys options.now (dtype_trees dtypes.now)) bytes.now e) }
 {
-    expect_row(dtypes)?;
     let mut scalars = Vec::with_capacity(alloc, dtypes.len())?;
     let mut place = 0;
     for column in 0..dtypes.len() {
-        let (scalar, next) = decode_at(alloc, &dtypes[column], options[column], bytes, place)?;
-        scalars.push(scalar)?;
-        place = next;
+        match decode_at(alloc, &dtypes[column], options[column], bytes, place) {
+            Ok((scalar, next)) => {
+                scalars.push(scalar)?;
+                place = next;
+            }
+            Err(error) => return Err(of_row(dtypes, error)),
+        }
     }
     Ok((scalars, place))
 }

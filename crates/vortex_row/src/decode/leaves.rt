@@ -15,7 +15,7 @@ use vortex_value::ScalarValue;
 /// A truth value.
 #[tactic(auto, using(crate::proofs::LeafSteps::shown))]
 pub(super) fn read_truth(reader: &mut Reader<'_>) -> Result<ScalarValue, KeyDecodeError>
-    ensures { Reads (Unit {0}) (IsPresent (bool_type NonNullable)) value_tree
+    ensures { Reads (IsPresent (bool_type NonNullable)) value_tree
         result (left reader.old) (left reader.new) }
 {
     if reader.takes(FALSE) {
@@ -33,7 +33,7 @@ pub(super) fn read_primitive(
     ptype: PType,
     reader: &mut Reader<'_>,
 ) -> Result<ScalarValue, KeyDecodeError>
-    ensures { Reads (Unit {0}) (IsPresent (integer_type ptype NonNullable)) value_tree
+    ensures { Reads (IsPresent (integer_type ptype NonNullable)) value_tree
         result (left reader.old) (left reader.new) }
 {
     match read_number(ptype, reader) {
@@ -48,7 +48,7 @@ pub(super) fn read_utf8(
     alloc: Global,
     reader: &mut Reader<'_>,
 ) -> Result<ScalarValue, KeyDecodeError>
-    ensures { Reads (Unit {0}) (IsPresent (utf8_type NonNullable)) value_tree
+    ensures { Reads (IsPresent (utf8_type NonNullable)) value_tree
         result (left reader.old) (left reader.new) }
 {
     reader.take(TEXT)?;
@@ -61,7 +61,7 @@ pub(super) fn read_binary(
     alloc: Global,
     reader: &mut Reader<'_>,
 ) -> Result<ScalarValue, KeyDecodeError>
-    ensures { Reads (Unit {0}) (IsPresent (binary_type NonNullable)) value_tree
+    ensures { Reads (IsPresent (binary_type NonNullable)) value_tree
         result (left reader.old) (left reader.new) }
 {
     reader.take(STRING)?;
@@ -75,7 +75,7 @@ pub(super) fn put_number(
     reader: &mut Reader<'_>,
     place: &mut Option<ScalarValue>,
 ) -> Result<(), KeyDecodeError>
-    ensures { ReadsInto (Unit {0}) (IsPresent (integer_type ptype NonNullable)) result
+    ensures { ReadsInto (IsPresent (integer_type ptype NonNullable)) result
         (raw_of place.new) (left reader.old) (left reader.new) }
 {
     let number = read_number(ptype, reader)?;
@@ -91,7 +91,7 @@ pub(super) fn put_text(
     reader: &mut Reader<'_>,
     place: &mut Option<ScalarValue>,
 ) -> Result<(), KeyDecodeError>
-    ensures { ReadsInto (Unit {0}) (IsPresent (utf8_type NonNullable)) result
+    ensures { ReadsInto (IsPresent (utf8_type NonNullable)) result
         (raw_of place.new) (left reader.old) (left reader.new) }
 {
     reader.take(TEXT)?;

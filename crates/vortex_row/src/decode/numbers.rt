@@ -101,7 +101,7 @@ fn magnitude_by_bytes(bytes: &[u8], invert: bool, width: u8, limit: u64) -> Resu
     ensures within { IfErr result (λ place. place ≤ length bytes.now) }
     ensures read { MatchResult result
         (λ number. HasMagnitude width limit (inverted invert bytes.now) number)
-        (λ place. IsStuck (Unit {0}) (IsMagnitude width limit) (inverted invert bytes.now)
+        (λ place. IsStuck (IsMagnitude width limit) (inverted invert bytes.now)
         (drop place (inverted invert bytes.now))) }
 {
     let mut number = 0u64;
@@ -185,7 +185,7 @@ fn read_distance(form: Form, reader: &mut Reader<'_>) -> Result<u64, KeyDecodeEr
     ensures { MatchResult result
         (λ number. HasDistance form.below form.width form.limit number
         (left reader.old) (left reader.new))
-        (λ e. IsStuck (Unit {0}) (IsInverted form.below (IsMagnitude form.width form.limit))
+        (λ e. IsStuck (IsInverted form.below (IsMagnitude form.width form.limit))
         (left reader.old) (left reader.new)) }
 {
     are_bytes(reader.rest);
@@ -260,7 +260,7 @@ fn number_at_once(ptype: PType, bytes: &[u8], invert: bool) -> Option<(PValue, u
 /// A number of the kind, byte by byte.
 #[inline(never)]
 fn number_by_bytes(ptype: PType, reader: &mut Reader<'_>) -> Result<PValue, KeyDecodeError>
-    ensures { Reads (Unit {0}) (IsPresent (integer_type ptype NonNullable)) number_tree
+    ensures { Reads (IsPresent (integer_type ptype NonNullable)) number_tree
         result (left reader.old) (left reader.new) }
 {
     let Some(head) = reader.first() else {
@@ -280,7 +280,7 @@ fn number_by_bytes(ptype: PType, reader: &mut Reader<'_>) -> Result<PValue, KeyD
 /// A number of the kind.
 #[inline(always)]
 pub(super) fn read_number(ptype: PType, reader: &mut Reader<'_>) -> Result<PValue, KeyDecodeError>
-    ensures { Reads (Unit {0}) (IsPresent (integer_type ptype NonNullable)) number_tree
+    ensures { Reads (IsPresent (integer_type ptype NonNullable)) number_tree
         result (left reader.old) (left reader.new) }
 {
     match number_at_once(ptype, reader.rest, reader.invert) {

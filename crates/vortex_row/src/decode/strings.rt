@@ -116,7 +116,7 @@ fn buffer_with(bytes: Vec<u8>) -> Result<ByteBuffer, KeyDecodeError>
 fn second_byte(reader: &mut Reader<'_>) -> Result<u8, KeyDecodeError>
     ensures { MatchResult result
         (λ byte. 1 ∷ left reader.old ≡ escape byte ++ left reader.new)
-        (λ e. IsStuck (Unit {0}) (IsHalfEscaped IsAny) (left reader.old) (left reader.new)) }
+        (λ e. IsStuck (IsHalfEscaped IsAny) (left reader.old) (left reader.new)) }
 {
     if reader.takes(END + 1) {
         Ok(END)
@@ -133,7 +133,7 @@ fn next_byte(reader: &mut Reader<'_>) -> Result<Option<u8>, KeyDecodeError>
     ensures { MatchResult result
         (λ next. MatchOption next (left reader.old ≡ 0 ∷ left reader.new)
         (λ byte. left reader.old ≡ escape byte ++ left reader.new))
-        (λ e. IsStuck (Unit {0}) (IsEscaped IsAny) (left reader.old) (left reader.new)) }
+        (λ e. IsStuck (IsEscaped IsAny) (left reader.old) (left reader.new)) }
 {
     match reader.first() {
         Some(END) => {
@@ -161,7 +161,7 @@ fn read_by_bytes(alloc: Global, reader: &mut Reader<'_>) -> Result<Vec<u8>, KeyD
     ensures { MatchResult result
         (λ bytes. HasString IsAny bytes.items (left reader.old) (left reader.new))
         (λ e. e ≡ Bad
-        → IsStuck (Unit {0}) (IsEscaped IsAny) (left reader.old) (left reader.new)) }
+        → IsStuck (IsEscaped IsAny) (left reader.old) (left reader.new)) }
 {
     let room = memchr(inverted_if(reader.invert, END), reader.rest).unwrap_or(0);
     let mut bytes = Vec::with_capacity(alloc, room)?;
@@ -182,7 +182,7 @@ pub(super) fn read_bytes(
     ensures { MatchResult result
         (λ buffer. HasString IsAny buffer (left reader.old) (left reader.new))
         (λ e. e ≡ Bad
-        → IsStuck (Unit {0}) (IsEscaped IsAny) (left reader.old) (left reader.new)) }
+        → IsStuck (IsEscaped IsAny) (left reader.old) (left reader.new)) }
 {
     if !reader.invert {
         if let Some(string) = plain_string(reader.rest) {
@@ -214,7 +214,7 @@ fn text_by_bytes(alloc: Global, reader: &mut Reader<'_>) -> Result<BufferString,
     ensures { MatchResult result
         (λ text. HasString IsUtf8 text (left reader.old) (left reader.new))
         (λ e. e ≡ Bad
-        → IsStuck (Unit {0}) (IsEscaped IsUtf8) (left reader.old) (left reader.new)) }
+        → IsStuck (IsEscaped IsUtf8) (left reader.old) (left reader.new)) }
 {
     let start = *reader;
     match read_valid(alloc, reader) {
@@ -236,7 +236,7 @@ pub(super) fn read_text(
     ensures { MatchResult result
         (λ text. HasString IsUtf8 text (left reader.old) (left reader.new))
         (λ e. e ≡ Bad
-        → IsStuck (Unit {0}) (IsEscaped IsUtf8) (left reader.old) (left reader.new)) }
+        → IsStuck (IsEscaped IsUtf8) (left reader.old) (left reader.new)) }
 {
     if !reader.invert {
         if let Some(text) = plain_text(reader.rest) {

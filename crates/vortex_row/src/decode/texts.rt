@@ -95,7 +95,7 @@ fn after(next: Next, byte: u8) -> Option<Next>
 /// if none is there.
 pub(super) fn first_bad(bytes: &[u8], invert: bool) -> usize
     ensures within { result ≤ length bytes.now }
-    ensures bad { IsStuck (Unit {0}) (IsEscaped IsUtf8) (inverted invert bytes.now)
+    ensures bad { IsStuck (IsEscaped IsUtf8) (inverted invert bytes.now)
         (drop result (inverted invert bytes.now))
         ⊎ BeginsWithOne (IsEscaped IsUtf8) (inverted invert bytes.now) }
 {

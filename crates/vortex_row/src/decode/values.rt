@@ -1,23 +1,24 @@
 //! Values from their keys, down the type. A refusal leaves the reader before the first byte that
-//! cannot be. Where the type is sparse, what has no value is refused before its first byte.
+//! cannot be. Of a type that has no value that is the first byte, so what must hold a value of such a
+//! type is refused where it begins.
 
 ghost use Rattle.std.specs.Prelude.{◌≡◌, ◌≢◌, ◌++◌, ◌∷◌, ◌<◌, [], ℕ, List, MatchOption, MatchResult, Some, false};
 ghost use Rattle.std.specs.Prelude.{true};
-ghost use Rattle.vortex_row.specs.Reading.{AllHaveValues, HasPlain, HasRead, HasValues, IfDense, IsChild, IsKeyed};
-ghost use Rattle.vortex_row.specs.Reading.{IsPresent, IsStuck, Puts, Reads, ReadsInto, entry_type, left};
+ghost use Rattle.vortex_row.specs.Reading.{HasRead, IsChild, IsPresent, IsStuck, Puts, PutsOne, Reads};
+ghost use Rattle.vortex_row.specs.Reading.{ReadsInto, ReadsOne, entry_type, left};
 ghost use Rattle.vortex_row.specs.Words.{IsNullable, NonNullable, Valid, absent, as_type_trees, dtype_trees};
 ghost use Rattle.vortex_row.specs.Words.{fixed_size_list_type, integer_type, list_type, map_of, map_type, raw_of};
 ghost use Rattle.vortex_row.specs.Words.{raw_union, struct_type, type_of, type_with, union_tree, union_type};
 ghost use Rattle.vortex_row.specs.Words.{value_tree, variants_of};
-ghost use Rattle.vortex_row.specs.declared.reader.KeyDecodeError.TheVariants.{Bad, NoMemory};
+ghost use Rattle.vortex_row.specs.declared.reader.KeyDecodeError.TheVariants.{NoMemory};
 
+use super::inhabited::{
+    bad_or_none, has_child, has_entry, has_sized, has_value, have_values, of_nullable, of_optional,
+    of_struct, of_union, of_whole, variant_with,
+};
 use super::leaves::{put_number, put_text, read_binary, read_primitive, read_truth, read_utf8};
 use super::numbers::read_number;
-use super::sparse::{
-    expect_child, expect_entry, expect_fields, expect_sized, expect_value, has_empty_union,
-    variant_with,
-};
-use crate::reader::{KeyDecodeError, Reader};
+use crate::reader::{KeyDecodeError, Reader, ValueError};
 use crate::tags::{END, NULL, SEQUENCE, TAGGED};
 use std::alloc::Global;
 use vortex_dtype::{DType, MapDType, PType, UnionVariants};
@@ -83,15 +84,17 @@ pub(super) fn read(
     alloc: Global,
     dtype: &DType,
     reader: &mut Reader<'_>,
-    is_sparse: bool,
-) -> Result<Option<ScalarValue>, KeyDecodeError>
-    ensures { Reads (IfDense is_sparse (HasValues (type_of dtype.now))) (Valid (type_of dtype.now)) raw_of
-        result (left reader.old) (left reader.new) }
+) -> Result<Option<ScalarValue>, ValueError>
+    ensures { ReadsOne (Valid (type_of dtype.now)) raw_of result (left reader.old) (left reader.new) }
 {
     if takes_null(dtype, reader) {
         return Ok(None);
     }
-    Ok(Some(read_value(alloc, dtype, reader, is_sparse)?))
+    let start = *reader;
+    match read_value(alloc, dtype, reader) {
+        Ok(value) => Ok(Some(value)),
+        Err(error) => Err(of_nullable(dtype, start, error, reader)),
+    }
 }
 
 /// Puts a number of the kind to the others.
@@ -101,14 +104,14 @@ fn push_number(
     reader: &mut Reader<'_>,
     parts: &mut Vec<Option<ScalarValue>>,
 ) -> Result<(), KeyDecodeError>
-    ensures { Puts (Unit {0}) (IsPresent (integer_type ptype NonNullable)) result
+    ensures { Puts (IsPresent (integer_type ptype NonNullable)) result
         parts.old.items parts.new.items (left reader.old) (left reader.new) }
 {
     let number = read_number(ptype, reader)?;
     push(Some(ScalarValue::Primitive(number)), parts)
 }
 
-/// Puts a value of the type that is no null to the others.
+/// Puts an optional value of the type to the others.
 #[cycle(read)]
 #[inline(never)]
 fn push_value(
@@ -116,13 +119,12 @@ fn push_value(
     dtype: &DType,
     reader: &mut Reader<'_>,
     parts: &mut Vec<Option<ScalarValue>>,
-    is_sparse: bool,
-) -> Result<(), KeyDecodeError>
-    ensures { Puts (IfDense is_sparse (HasValues (type_of dtype.now))) (IsPresent (type_of dtype.now)) result
+) -> Result<(), ValueError>
+    ensures { PutsOne (Valid (type_of dtype.now)) result
         parts.old.items parts.new.items (left reader.old) (left reader.new) }
 {
-    let value = read_value(alloc, dtype, reader, is_sparse)?;
-    push(Some(value), parts)
+    let value = read(alloc, dtype, reader)?;
+    Ok(push(value, parts)?)
 }
 
 /// Puts an optional value of the type to the others. Numbers are read in the loop that asks for
@@ -134,17 +136,37 @@ fn push_next(
     dtype: &DType,
     reader: &mut Reader<'_>,
     parts: &mut Vec<Option<ScalarValue>>,
-    is_sparse: bool,
-) -> Result<(), KeyDecodeError>
-    ensures { Puts (IfDense is_sparse (HasValues (type_of dtype.now))) (Valid (type_of dtype.now)) result
+) -> Result<(), ValueError>
+    ensures { PutsOne (Valid (type_of dtype.now)) result
         parts.old.items parts.new.items (left reader.old) (left reader.new) }
 {
-    if takes_null(dtype, reader) {
-        return push(None, parts);
-    }
     match dtype {
-        DType::Primitive(ptype, _) => push_number(*ptype, reader, parts),
-        _ => push_value(alloc, dtype, reader, parts, is_sparse),
+        DType::Primitive(ptype, _) => {
+            if takes_null(dtype, reader) {
+                return Ok(push(None, parts)?);
+            }
+            Ok(push_number(*ptype, reader, parts)?)
+        }
+        _ => push_value(alloc, dtype, reader, parts),
+    }
+}
+
+/// Puts an optional value of the type to the others, where none need come.
+#[cycle(read)]
+#[inline(always)]
+fn push_element(
+    alloc: Global,
+    dtype: &DType,
+    reader: &mut Reader<'_>,
+    parts: &mut Vec<Option<ScalarValue>>,
+) -> Result<(), KeyDecodeError>
+    ensures { Puts (Valid (type_of dtype.now)) result
+        parts.old.items parts.new.items (left reader.old) (left reader.new) }
+{
+    let start = *reader;
+    match push_next(alloc, dtype, reader, parts) {
+        Ok(()) => Ok(()),
+        Err(error) => Err(of_optional(start, error, reader)),
     }
 }
 
@@ -155,27 +177,21 @@ pub(super) fn read_value(
     alloc: Global,
     dtype: &DType,
     reader: &mut Reader<'_>,
-    is_sparse: bool,
-) -> Result<ScalarValue, KeyDecodeError>
-    ensures { Reads (IfDense is_sparse (HasValues (type_of dtype.now))) (IsPresent (type_of dtype.now)) value_tree
-        result (left reader.old) (left reader.new) }
+) -> Result<ScalarValue, ValueError>
+    ensures { ReadsOne (IsPresent (type_of dtype.now)) value_tree result (left reader.old) (left reader.new) }
 {
     match dtype {
-        DType::Bool(_) => read_truth(reader),
-        DType::Primitive(ptype, _) => read_primitive(*ptype, reader),
-        DType::Utf8(_) => read_utf8(alloc, reader),
-        DType::Binary(_) => read_binary(alloc, reader),
-        DType::List(element, _) => read_list(alloc, element, reader, is_sparse),
-        DType::FixedSizeList(element, size, _) => read_fixed(
-            alloc, element, *size, reader, is_sparse,
-        ),
-        DType::Map(map, _) => read_map(alloc, map, reader, is_sparse),
-        DType::Struct(fields, _) => read_struct(alloc, fields.dtypes(), reader, is_sparse),
-        DType::Union(variants, _) => read_union(alloc, variants, reader, is_sparse),
-        DType::Extension(extension) => {
-            read_value(alloc, extension.storage_dtype(), reader, is_sparse)
-        }
-        DType::Null | DType::Variant(_) => Err(KeyDecodeError::Bad),
+        DType::Bool(_) => Ok(read_truth(reader)?),
+        DType::Primitive(ptype, _) => Ok(read_primitive(*ptype, reader)?),
+        DType::Utf8(_) => Ok(read_utf8(alloc, reader)?),
+        DType::Binary(_) => Ok(read_binary(alloc, reader)?),
+        DType::List(element, _) => Ok(read_list(alloc, element, reader)?),
+        DType::FixedSizeList(element, size, _) => read_fixed(alloc, element, *size, reader),
+        DType::Map(map, _) => Ok(read_map(alloc, map, reader)?),
+        DType::Struct(fields, _) => read_struct(alloc, fields.dtypes(), reader),
+        DType::Union(variants, _) => read_union(alloc, variants, reader),
+        DType::Extension(extension) => read_value(alloc, extension.storage_dtype(), reader),
+        DType::Null | DType::Variant(_) => Err(ValueError::NoValue),
     }
 }
 
@@ -188,7 +204,7 @@ pub(super) fn read_into(
     reader: &mut Reader<'_>,
     place: &mut Option<ScalarValue>,
 ) -> Result<(), KeyDecodeError>
-    ensures { ReadsInto (IsKeyed (type_of dtype.now)) (IsPresent (type_of dtype.now)) result
+    ensures { ReadsInto (IsPresent (type_of dtype.now)) result
         (raw_of place.new) (left reader.old) (left reader.new) }
 {
     match dtype {
@@ -206,11 +222,17 @@ fn put_value(
     reader: &mut Reader<'_>,
     place: &mut Option<ScalarValue>,
 ) -> Result<(), KeyDecodeError>
-    ensures { ReadsInto (IsKeyed (type_of dtype.now)) (IsPresent (type_of dtype.now)) result
+    ensures { ReadsInto (IsPresent (type_of dtype.now)) result
         (raw_of place.new) (left reader.old) (left reader.new) }
 {
-    *place = Some(read_value(alloc, dtype, reader, has_empty_union(dtype))?);
-    Ok(())
+    let start = *reader;
+    match read_value(alloc, dtype, reader) {
+        Ok(value) => {
+            *place = Some(value);
+            Ok(())
+        }
+        Err(error) => Err(of_optional(start, error, reader)),
+    }
 }
 
 /// A list of elements of this type.
@@ -220,16 +242,14 @@ fn read_list(
     alloc: Global,
     element: &DType,
     reader: &mut Reader<'_>,
-    is_sparse: bool,
 ) -> Result<ScalarValue, KeyDecodeError>
-    ensures { Reads (IfDense is_sparse (HasValues (type_of element.now)))
-        (IsPresent (list_type (type_of element.now) NonNullable)) value_tree
+    ensures { Reads (IsPresent (list_type (type_of element.now) NonNullable)) value_tree
         result (left reader.old) (left reader.new) }
 {
     reader.take(SEQUENCE)?;
     let mut parts = Vec::new(alloc);
     while !reader.takes(END) {
-        push_next(alloc, element, reader, &mut parts, is_sparse)?;
+        push_element(alloc, element, reader, &mut parts)?;
     }
     Ok(ScalarValue::Tuple(parts))
 }
@@ -242,17 +262,16 @@ fn read_fixed(
     element: &DType,
     size: u32,
     reader: &mut Reader<'_>,
-    is_sparse: bool,
-) -> Result<ScalarValue, KeyDecodeError>
-    ensures { Reads (IfDense is_sparse (HasValues (type_of element.now)))
-        (IsPresent (fixed_size_list_type (type_of element.now) size NonNullable)) value_tree
+) -> Result<ScalarValue, ValueError>
+    ensures { ReadsOne (IsPresent (fixed_size_list_type (type_of element.now) size NonNullable)) value_tree
         result (left reader.old) (left reader.new) }
 {
-    expect_sized(element, size, is_sparse)?;
-    reader.take(SEQUENCE)?;
+    if !reader.takes(SEQUENCE) {
+        return Err(bad_or_none(has_sized(element, size)));
+    }
     let mut parts = Vec::new(alloc);
     for place in 0..size {
-        push_next(alloc, element, reader, &mut parts, is_sparse)?;
+        push_next(alloc, element, reader, &mut parts)?;
     }
     reader.take(END)?;
     Ok(ScalarValue::Tuple(parts))
@@ -265,19 +284,34 @@ fn read_map(
     alloc: Global,
     map: &MapDType,
     reader: &mut Reader<'_>,
-    is_sparse: bool,
 ) -> Result<ScalarValue, KeyDecodeError>
-    ensures { Reads (IfDense is_sparse
-        (HasValues (map_of map.now).key × HasValues (map_of map.now).value))
-        (IsPresent (map_type (map_of map.now).key (map_of map.now).value false NonNullable))
+    ensures { Reads (IsPresent (map_type (map_of map.now).key (map_of map.now).value false NonNullable))
         value_tree result (left reader.old) (left reader.new) }
 {
     reader.take(SEQUENCE)?;
     let mut parts = Vec::new(alloc);
     while !reader.takes(END) {
-        push(Some(read_entry(alloc, map, reader, is_sparse)?), &mut parts)?;
+        push_entry(alloc, map, reader, &mut parts)?;
     }
     Ok(ScalarValue::Tuple(parts))
+}
+
+/// Puts an entry of a map to the others, where none need come.
+#[cycle(read)]
+fn push_entry(
+    alloc: Global,
+    map: &MapDType,
+    reader: &mut Reader<'_>,
+    parts: &mut Vec<Option<ScalarValue>>,
+) -> Result<(), KeyDecodeError>
+    ensures { Puts (Valid (entry_type (map_of map.now).key (map_of map.now).value)) result
+        parts.old.items parts.new.items (left reader.old) (left reader.new) }
+{
+    let start = *reader;
+    match read_entry(alloc, map, reader) {
+        Ok(entry) => push(Some(entry), parts),
+        Err(error) => Err(of_optional(start, error, reader)),
+    }
 }
 
 /// A key and a value of a map.
@@ -287,18 +321,18 @@ fn read_entry(
     alloc: Global,
     map: &MapDType,
     reader: &mut Reader<'_>,
-    is_sparse: bool,
-) -> Result<ScalarValue, KeyDecodeError>
-    ensures { Reads (IfDense is_sparse
-        (HasValues (map_of map.now).key × HasValues (map_of map.now).value))
-        (IsPresent (entry_type (map_of map.now).key (map_of map.now).value)) value_tree
+) -> Result<ScalarValue, ValueError>
+    ensures { ReadsOne (IsPresent (entry_type (map_of map.now).key (map_of map.now).value)) value_tree
         result (left reader.old) (left reader.new) }
 {
-    expect_entry(map, is_sparse)?;
-    reader.take(SEQUENCE)?;
+    if !reader.takes(SEQUENCE) {
+        return Err(bad_or_none(has_entry(map)));
+    }
     let mut parts = Vec::new(alloc);
-    push_next(alloc, map.key_dtype(), reader, &mut parts, is_sparse)?;
-    push_next(alloc, map.value_dtype(), reader, &mut parts, is_sparse)?;
+    if let Err(error) = push_next(alloc, map.key_dtype(), reader, &mut parts) {
+        return Err(of_whole(error, has_value(map.value_dtype())));
+    }
+    push_next(alloc, map.value_dtype(), reader, &mut parts)?;
     reader.take(END)?;
     Ok(ScalarValue::Tuple(parts))
 }
@@ -310,17 +344,18 @@ fn read_struct(
     alloc: Global,
     dtypes: &[DType],
     reader: &mut Reader<'_>,
-    is_sparse: bool,
-) -> Result<ScalarValue, KeyDecodeError>
-    ensures { Reads (IfDense is_sparse (AllHaveValues (dtype_trees dtypes.now)))
-        (IsPresent (struct_type [] (dtype_trees dtypes.now) NonNullable)) value_tree
+) -> Result<ScalarValue, ValueError>
+    ensures { ReadsOne (IsPresent (struct_type [] (dtype_trees dtypes.now) NonNullable)) value_tree
         result (left reader.old) (left reader.new) }
 {
-    expect_fields(dtypes, is_sparse)?;
-    reader.take(SEQUENCE)?;
+    if !reader.takes(SEQUENCE) {
+        return Err(bad_or_none(have_values(dtypes)));
+    }
     let mut parts = Vec::new(alloc);
-    for dtype in dtypes {
-        push_next(alloc, dtype, reader, &mut parts, is_sparse)?;
+    for index in 0..dtypes.len() {
+        if let Err(error) = push_next(alloc, &dtypes[index], reader, &mut parts) {
+            return Err(of_struct(dtypes, index, error));
+        }
     }
     reader.take(END)?;
     Ok(ScalarValue::Tuple(parts))
@@ -333,45 +368,39 @@ fn read_union(
     alloc: Global,
     variants: &UnionVariants,
     reader: &mut Reader<'_>,
-    is_sparse: bool,
-) -> Result<ScalarValue, KeyDecodeError>
-    ensures { Reads (IfDense is_sparse (HasValues (union_type []
-        (as_type_trees (variants_of variants.now).types)
-        (variants_of variants.now).type_ids NonNullable)))
-        (IsPresent (union_type []
+) -> Result<ScalarValue, ValueError>
+    ensures { ReadsOne (IsPresent (union_type []
         (as_type_trees (variants_of variants.now).types)
         (variants_of variants.now).type_ids NonNullable))
         value_tree result (left reader.old) (left reader.new) }
 {
-    expect_child(variants, is_sparse)?;
-    reader.take(TAGGED)?;
-    let (id, dtype) = variant_at(variants, reader, is_sparse)?;
-    let child = read(alloc, dtype, reader, is_sparse)?;
-    Ok(ScalarValue::Union(union_of(alloc, id, child)?))
+    if !reader.takes(TAGGED) {
+        return Err(bad_or_none(has_child(variants, None)));
+    }
+    let start = *reader;
+    match variant_at(variants, reader) {
+        Some((id, dtype)) => match read(alloc, dtype, reader) {
+            Ok(child) => Ok(ScalarValue::Union(union_of(alloc, id, child)?)),
+            Err(error) => Err(of_union(variants, id, start, error, reader)),
+        },
+        None => Err(bad_or_none(has_child(variants, None))),
+    }
 }
 
-/// The id that comes, and the type of the variant with it.
+/// The id that comes, and the type of the variant with it. `None` if no variant has it.
 #[tactic(auto, using(crate::proofs::ValueSteps::shown))]
-fn variant_at<'a>(
-    variants: &'a UnionVariants,
-    reader: &mut Reader<'_>,
-    is_sparse: bool,
-) -> Result<(u8, &'a DType), KeyDecodeError>
-    ensures { MatchResult result
+fn variant_at<'a>(variants: &'a UnionVariants, reader: &mut Reader<'_>) -> Option<(u8, &'a DType)>
+    ensures { MatchOption result
+        (IsStuck (IsChild (variants_of variants.now).type_ids
+        (as_type_trees (variants_of variants.now).types))
+        (left reader.old) (left reader.new))
         (λ p. (left reader.old ≡ p.0 ∷ left reader.new)
         × (type_with p.0 (variants_of variants.now).type_ids
         (as_type_trees (variants_of variants.now).types) ≡ Some (type_of p.1.now))
-        × (p.0 < 256)
-        × (IfDense is_sparse (HasValues (type_of p.1.now))
-        → HasPlain (Valid (type_of p.1.now))))
-        (λ e. IsStuck (Unit {0})
-        (IsChild (variants_of variants.now).type_ids
-        (as_type_trees (variants_of variants.now).types))
-        (left reader.old) (left reader.new)) }
+        × (p.0 < 256)) }
 {
-    let id = reader.first().ok_or(KeyDecodeError::Bad)?;
-    let dtype = variant_with(variants, id).ok_or(KeyDecodeError::Bad)?;
-    expect_value(dtype, is_sparse)?;
+    let id = reader.first()?;
+    let dtype = variant_with(variants, id)?;
     reader.advance(1);
-    Ok((id, dtype))
+    Some((id, dtype))
 }

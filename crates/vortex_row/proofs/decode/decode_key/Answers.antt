@@ -7,4 +7,4 @@ pub returns-clause-whole : goal.returns-clause-whole
 returns-clause-whole c = answers-whole c.args.options (type_of c.args.dtype.now) c.args.bytes.now c.decode_column.result c.one_value.ensures c.decode_column.ensures
 
 pub returns-clause-bad : goal.returns-clause-bad
-returns-clause-bad c = answers-bad c.args.options (type_of c.args.dtype.now) c.args.bytes.now c.decode_column.result c.in_ok-expect_no_variant.ensures.ordered c.in_ok-expect_no_variant.ensures.ids c.decode_column.ensures
+returns-clause-bad c = answers-bad c.args.options (type_of c.args.dtype.now) c.args.bytes.now c.decode_column.result c.in_ok-expect_no_variant.ensures.ordered c.decode_column.ensures

@@ -9,4 +9,4 @@ returns-clause-whole c =
 
 pub returns-clause-bad : goal.returns-clause-bad
 returns-clause-bad c =
-    into-bad c.args.options (type_of c.args.dtype.now) c.args.bytes.now c.decode_column_into.new.scalar c.decode_column_into.result c.in_ok-expect_no_variant.ensures.ordered c.in_ok-expect_no_variant.ensures.ids c.decode_column_into.ensures
+    into-bad c.args.options (type_of c.args.dtype.now) c.args.bytes.now c.decode_column_into.new.scalar c.decode_column_into.result c.in_ok-expect_no_variant.ensures.ordered c.decode_column_into.ensures

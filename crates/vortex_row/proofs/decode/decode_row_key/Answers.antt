@@ -7,4 +7,4 @@ returns-clause-whole c = rows-whole c.args.options.now c.args.dtypes.now c.args.
 
 pub returns-clause-bad : goal.returns-clause-bad
 returns-clause-bad c =
-    rows-bad c.args.options.now c.args.dtypes.now c.args.bytes.now c.decode_columns.result c.in_ok-expect_no_variants.ensures.ordered c.in_ok-expect_no_variants.ensures.ids c.decode_columns.ensures
+    rows-bad c.args.options.now c.args.dtypes.now c.args.bytes.now c.decode_columns.result c.in_ok-expect_no_variants.ensures.ordered c.decode_columns.ensures

@@ -9,7 +9,7 @@ returns-in_default c = λ bad. number-missing c.args.ptype _ c.in_default.ensure
 
 pub returns-in_err-distance : goal.returns-in_err-distance
 returns-in_err-distance c =
-    refused _ _ _ _ _ _ _ c.from_residual.ensures
+    refused _ _ _ _ _ _ c.from_residual.ensures
     (λ bad. number-stuck c.args.ptype c.in-Some.head c.in-Some-form_after.form.below c.in-Some-form_after.form.width c.in-Some-form_after.form.limit _ _ _ c.in-Some-form_after.ensures
     (after-first _ _ c.in-Some.head c.in-Some.ensures c.advance.ensures) c.in_err-distance.ensures)
 

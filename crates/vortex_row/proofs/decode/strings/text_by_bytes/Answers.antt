@@ -6,6 +6,6 @@ use Rattle.vortex_row.proofs.decode.strings.text_by_bytes.Goals as goal
 
 pub returns-in-Err-Bad : goal.returns-in-Err-Bad
 returns-in-Err-Bad c = λ bad. elim c.first_bad.ensures.bad [
-  | inl stuck ↦ subst (IsStuck (Unit {0}) (IsEscaped IsUtf8) (left c.args.reader.now)) (sym c.advance.ensures) stuck
+  | inl stuck ↦ subst (IsStuck (IsEscaped IsUtf8) (left c.args.reader.now)) (sym c.advance.ensures) stuck
   | inr text ↦ absurd (c.in-Err-Bad.ensures c.in-Err-Bad.field-0-is text)
 ]

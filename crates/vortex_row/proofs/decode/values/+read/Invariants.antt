@@ -25,36 +25,42 @@ invariant-read_map-loop-alloc l =
 abbrev pub decreases-read_map-loop-alloc : goal.decreases-read_map-loop-alloc
 decreases-read_map-loop-alloc l = length (left l.reader)
 
-abbrev pub invariant-read_struct-loop-dtype : goal.invariant-read_struct-loop-dtype
-invariant-read_struct-loop-dtype l =
-    SoFar (FieldsValid (dtype_trees l.dtypes)) (value_trees l.parts.items) (left l.initial.reader) (FieldsValid (dtype_trees (drop l.dtype-index l.dtypes))) (left l.reader)
+abbrev pub invariant-read_struct-loop-index : goal.invariant-read_struct-loop-index
+invariant-read_struct-loop-index l =
+    SoFar (FieldsValid (dtype_trees l.dtypes)) (value_trees l.parts.items) (left l.initial.reader) (FieldsValid (dtype_trees (drop l.index l.dtypes))) (left l.reader)
 
 abbrev pub decreases-read : goal.decreases-read
-decreases-read l = 6 * type_size (type_of l.dtype.now) + 1
+decreases-read l = 8 * type_size (type_of l.dtype.now) + 1
 
 abbrev pub decreases-read_value : goal.decreases-read_value
-decreases-read_value l = 6 * type_size (type_of l.dtype.now)
+decreases-read_value l = 8 * type_size (type_of l.dtype.now)
 
 abbrev pub decreases-read_list : goal.decreases-read_list
-decreases-read_list l = 6 * type_size (type_of l.element.now) + 3
+decreases-read_list l = 8 * type_size (type_of l.element.now) + 5
 
 abbrev pub decreases-read_fixed : goal.decreases-read_fixed
-decreases-read_fixed l = 6 * type_size (type_of l.element.now) + 3
+decreases-read_fixed l = 8 * type_size (type_of l.element.now) + 4
 
 abbrev pub decreases-read_map : goal.decreases-read_map
-decreases-read_map l = 6 * (type_size (map_of l.map.now).key + type_size (map_of l.map.now).value) + 4
+decreases-read_map l = 8 * (type_size (map_of l.map.now).key + type_size (map_of l.map.now).value) + 6
 
 abbrev pub decreases-read_entry : goal.decreases-read_entry
-decreases-read_entry l = 6 * (type_size (map_of l.map.now).key + type_size (map_of l.map.now).value) + 3
+decreases-read_entry l = 8 * (type_size (map_of l.map.now).key + type_size (map_of l.map.now).value) + 4
 
 abbrev pub decreases-read_struct : goal.decreases-read_struct
-decreases-read_struct l = 6 * types_size (dtype_trees l.dtypes.now) + 3
+decreases-read_struct l = 8 * types_size (dtype_trees l.dtypes.now) + 4
 
 abbrev pub decreases-read_union : goal.decreases-read_union
-decreases-read_union l = 6 * types_size (as_type_trees (variants_of l.variants.now).types) + 2
+decreases-read_union l = 8 * types_size (as_type_trees (variants_of l.variants.now).types) + 2
 
 abbrev pub decreases-push_value : goal.decreases-push_value
-decreases-push_value l = 6 * type_size (type_of l.dtype.now) + 1
+decreases-push_value l = 8 * type_size (type_of l.dtype.now) + 2
 
 abbrev pub decreases-push_next : goal.decreases-push_next
-decreases-push_next l = 6 * type_size (type_of l.dtype.now) + 2
+decreases-push_next l = 8 * type_size (type_of l.dtype.now) + 3
+
+abbrev pub decreases-push_element : goal.decreases-push_element
+decreases-push_element l = 8 * type_size (type_of l.dtype.now) + 4
+
+abbrev pub decreases-push_entry : goal.decreases-push_entry
+decreases-push_entry l = 8 * (type_size (map_of l.map.now).key + type_size (map_of l.map.now).value) + 5

@@ -1,17 +1,17 @@
--- The types so far have values, and the ids so far none; each call goes down the type.
+-- The types so far have values, and those of the ids so far have none; each call goes down the type.
 use Rattle.std.proofs.Common.{◌+◌, ◌*◌, drop}
 use Rattle.vortex_dtype.specs.TypeOf.{as_type_trees, dtype_trees, type_of, variants_of}
 use Rattle.vortex_dtype.specs.Lemmas.TypeSize.{type_size, types_size}
 use Rattle.vortex_value.specs.Validity.{FieldsValid}
 use Rattle.vortex_row.specs.Reading.{HavePlain}
-use Rattle.vortex_row.proofs.SparseSteps.{NoneBelow}
-use Rattle.vortex_row.proofs.decode.sparse.+values.Given as goal
+use Rattle.vortex_row.proofs.InhabitedSteps.{NoneBefore}
+use Rattle.vortex_row.proofs.decode.inhabited.+values.Given as goal
 
 abbrev pub invariant-have_values-loop-dtype : goal.invariant-have_values-loop-dtype
 invariant-have_values-loop-dtype l = HavePlain (FieldsValid (dtype_trees (drop l.dtype-index l.dtypes))) → HavePlain (FieldsValid (dtype_trees l.dtypes))
 
-abbrev pub invariant-has_child-loop-id : goal.invariant-has_child-loop-id
-invariant-has_child-loop-id l = NoneBelow l.id (variants_of l.variants).type_ids (as_type_trees (variants_of l.variants).types)
+abbrev pub invariant-has_child-loop-index : goal.invariant-has_child-loop-index
+invariant-has_child-loop-index l = NoneBefore l.index (variants_of l.variants).type_ids (as_type_trees (variants_of l.variants).types)
 
 abbrev pub decreases-has_value : goal.decreases-has_value
 decreases-has_value l = 4 * type_size (type_of l.dtype.now) + 1

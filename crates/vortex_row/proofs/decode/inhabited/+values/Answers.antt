@@ -1,13 +1,13 @@
 -- The values of each kind of type.
-use Rattle.std.proofs.Common.{arith}
-use Rattle.vortex_dtype.specs.TypeOf.{dtype_trees, fields_of, type_of}
+use Rattle.std.proofs.Common.{◌<◌, arith, rules, subst}
+use Rattle.vortex_dtype.specs.TypeOf.{as_type_trees, dtype_trees, fields_of, type_of, variants_of}
 use Rattle.vortex_dtype.specs.TypeTree.{fixed_size_list_type, struct_type}
 use Rattle.vortex_value.specs.Validity.{FieldsValid}
-use Rattle.vortex_row.specs.Reading.{AreSized}
+use Rattle.vortex_row.specs.Reading.{AreSized, LacksChild}
 use Rattle.vortex_row.proofs.PartSteps.{fixed-tuple, struct-tuple}
-use Rattle.vortex_row.proofs.SparseSteps.{bool-there, bytes-there, extension-told, fields-end, fields-more, list-there, map-there, no-children, no-fields_there, none-more, none-sized_there, none-told, none-yet, null-there, number-there, one-child, sized-told, text-there, told-not, told-so, tuple-told, union-told, value-told}
+use Rattle.vortex_row.proofs.InhabitedSteps.{bool-there, bytes-there, extension-told, fields-end, fields-more, list-there, map-there, no-children, no-fields_there, none-more, none-sized_there, none-told, none-yet, null-there, number-there, one-child, sized-told, text-there, told-not, told-so, tuple-told, union-told, value-told}
 use Rattle.vortex_row.proofs.ValueSteps.{extension-type, fixed-type, struct-type, union-type}
-use Rattle.vortex_row.proofs.decode.sparse.+values.Goals as goal
+use Rattle.vortex_row.proofs.decode.inhabited.+values.Goals as goal
 
 pub has_value-returns-then-is_nullable : goal.has_value-returns-then-is_nullable
 has_value-returns-then-is_nullable t c = null-there (type_of c.args.dtype.now) c.is_nullable.result c.is_nullable.ensures c.if-is_nullable.true
@@ -55,17 +55,23 @@ have_values-returns-then-not-has_value t c =
 pub have_values-returns : goal.have_values-returns
 have_values-returns t c = c.loop-dtype.invariant (fields-end c.loop-dtype.dtype-index c.args.dtypes.now c.loop-dtype-test.false)
 
-pub has_child-loop-id-init : goal.has_child-loop-id-init
-has_child-loop-id-init t c = none-yet _ _
+pub has_child-loop-index-init : goal.has_child-loop-index-init
+has_child-loop-index-init t c = none-yet _ _
 
-pub has_child-loop-id-preserved : goal.has_child-loop-id-preserved
-has_child-loop-id-preserved t c = none-more c.loop-id.id _ _ c.loop-id.invariant (told-not _ _ c.if-has_child_at.false c.has_child_at.ensures)
+pub has_child-loop-index-preserved : goal.has_child-loop-index-preserved
+has_child-loop-index-preserved t c = none-more c.loop-index.index c.child_index_to_tag.result _ _ c.loop-index.invariant c.child_index_to_tag.ensures (told-not _ _ c.if-has_child_at.false c.has_child_at.ensures)
 
 pub has_child-returns-then-has_child_at : goal.has_child-returns-then-has_child_at
-has_child-returns-then-has_child_at t c = one-child c.loop-id.id _ _ c.loop-id-test.true (told-so _ _ c.if-has_child_at.true c.has_child_at.ensures)
+has_child-returns-then-has_child_at t c =
+    let small : c.child_index_to_tag.result < 256 = search rules in
+    one-child c.child_index_to_tag.result _ _ small (told-so _ _ c.if-has_child_at.true c.has_child_at.ensures)
 
 pub has_child-returns : goal.has_child-returns
-has_child-returns t c = no-children c.loop-id.id _ _ (omega arith) c.loop-id.invariant
+has_child-returns t c = no-children c.loop-index.index _ _ (omega (arith, c.len-index-end.ensures, c.loop-index-test.false)) c.loop-index.invariant
+
+pub has_child_at-returns-then-is_some_id : goal.has_child_at-returns-then-is_some_id
+has_child_at-returns-then-is_some_id t c =
+    subst (λ o. LacksChild o (variants_of c.args.variants.now).type_ids (as_type_trees (variants_of c.args.variants.now).types)) (c.is_some_id.ensures c.if-is_some_id.true) c.requires
 
 pub has_present-returns-in-Bool : goal.has_present-returns-in-Bool
 has_present-returns-in-Bool t c = bool-there c.args.dtype.now c.in-Bool.field-0 c.in-Bool.is

@@ -1,6 +1,6 @@
 -- A key and a value, of which each type has one.
-use Rattle.vortex_row.proofs.SparseSteps.{entry-told, no-entry, told-not, told-so}
-use Rattle.vortex_row.proofs.decode.sparse.has_entry.Goals as goal
+use Rattle.vortex_row.proofs.InhabitedSteps.{entry-told, no-entry, told-not, told-so}
+use Rattle.vortex_row.proofs.decode.inhabited.has_entry.Goals as goal
 
 pub returns-then-not-has_value : goal.returns-then-not-has_value
 returns-then-not-has_value c = no-entry _ _ _ c.key_dtype.ensures.tree (told-not _ _ c.if-not-has_value.true c.has_value.ensures)

@@ -1,104 +1,34 @@
--- Steps of the tests for unions without variants, and for values of types in which such a union stands.
-use Rattle.std.proofs.Common.{◌≡◌, ◌≢◌, ◌||◌, ◌<◌, ◌≤◌, ◌==◌, ◌⊎◌, inl, inr, ℕ, zero, suc, ◌+◌, List, [], ◌∷◌, length, drop, get_or, drop-cons, Some as Present, None, Bool, true, false, true≢false, refl, sym, subst, ap, ap₂, ◌∙◌, arith, pos}
+-- Steps of the tests for values that a type has.
+use Rattle.std.proofs.Common.{◌≡◌, ◌≢◌, ◌<◌, ◌≤◌, ◌==◌, ◌⊎◌, inl, inr, ℕ, zero, suc, ◌+◌, List, [], ◌∷◌, length, drop, get_or, drop-cons, Some as Present, None, Bool, true, false, true≢false, refl, sym, subst, ap, ap₂, ◌∙◌, arith, pos}
 use Rattle.std.proofs.lemmas.Bool.Decides.{nat_tests}
-use Rattle.std.proofs.lemmas.Option.{same_Some}
+use Rattle.std.proofs.lemmas.Option.{same_Some, slice_get_within}
 use Rattle.std.proofs.lemmas.Str.{IsUtf8-nil}
 use Rattle.vortex_dtype.specs.Lemmas.TypeLevels.{type_of-Null, type_of-Variant, type_of-Bool, type_of-Primitive, type_of-Utf8, type_of-Binary, type_of-List, type_of-FixedSizeList, type_of-Map, type_of-Struct, type_of-Union, type_of-Extension}
-use Rattle.vortex_dtype.specs.TypeOf.{as_type_trees, dtype_trees, map_of, type_of}
-use Rattle.vortex_dtype.specs.TypeTree.{TypeTree, null_type, bool_type, integer_type, utf8_type, binary_type, list_type, fixed_size_list_type, map_type, struct_type, union_type, variant_type, extension_type, TypeTrees, no_types, type_then, IsNullable, is_nullable, says_nullable}
+use Rattle.vortex_dtype.specs.TypeOf.{dtype_trees, map_of, type_of}
+use Rattle.vortex_dtype.specs.TypeTree.{TypeTree, null_type, bool_type, integer_type, utf8_type, binary_type, list_type, map_type, union_type, variant_type, extension_type, TypeTrees, no_types, type_then, IsNullable, is_nullable, says_nullable}
 use Rattle.vortex_dtype.specs.declared.nullability.Nullability.{Nullability}
-use Rattle.vortex_dtype.specs.declared.nullability.Nullability.TheVariants.{NonNullable}
 use Rattle.vortex_dtype.specs.declared.ptype.PType.{PType}
 use Rattle.vortex_dtype.specs.declared.types.DType.{DType, Null, Bool as Bool_, Primitive, Utf8, Binary, List as List_, Map, Variant}
 use Rattle.vortex_dtype.specs.declared.types.MapDType.{MapDType}
-use Rattle.std.specs.Prelude.{Box}
+use Rattle.std.specs.Prelude.{Box, if◌then◌else◌, slice_get}
 use Rattle.std.specs.Global.{Global}
-use Rattle.vortex_value.specs.TypesWithin.{UnionsHaveVariants, AllHaveVariants}
 use Rattle.vortex_value.specs.Validity.{FieldsValid, Valid, type_with}
 use Rattle.vortex_value.specs.Values.RawTree.{RawTree, absent, raw_bool, raw_integer, raw_text, raw_bytes, raw_tuple, RawTrees, no_raws, raw_then}
-use Rattle.vortex_cells.proofs.VariantSteps.{or_false, type_size_item}
-use Rattle.vortex_row.specs.Reading.{AllHaveValues, AreKeyed, ArePlain, AreSized, HasChild, HasOne, HasPlain, HasValues, HavePlain, IfDense, IsChild, IsKey, IsKeyed, IsPlain, IsPresent, IsStuck, Tells}
-use Rattle.vortex_row.specs.Sparse.{has_empty_union, have_empty_union, lacks_variants}
+use Rattle.vortex_cells.proofs.VariantSteps.{type_size_item}
+use Rattle.vortex_row.specs.Reading.{ArePlain, AreSized, HasChild, HasOne, HasPlain, HavePlain, IsChild, IsPlain, IsPresent, Tells}
 use Rattle.vortex_value.specs.Values.Content.{content}
 use Rattle.vortex_row.specs.Keys.{key}
 use Rattle.vortex_row.proofs.ByteLaws.{no_bytes}
-use Rattle.vortex_row.proofs.DecodeSteps.{has-values, have-values}
-use Rattle.vortex_row.proofs.PartSteps.{TupleOf, null_allowed, null_valid, parts-tuple, some_sized, some_value, some_values, tagged-join, tagged-opens, tuple-parts, zero_fits}
+use Rattle.vortex_row.proofs.PartSteps.{TupleOf, null_allowed, null_valid, parts-tuple, some_sized, tagged-join, tagged-opens, tuple-parts, zero_fits}
 use Rattle.vortex_row.proofs.ReaderSteps.{none-left}
-use Rattle.vortex_row.proofs.StuckLaws.{stuck-same}
-use Rattle.vortex_row.proofs.ValueSteps.{bare, child-size, fields-from, from_bare, later-fields, no_null_value, no_variant_value, some-child, takes-null, to_bare}
-
--- ---- unions without variants
-
-pub lacks-ids : (ts : List TypeTree) (ids : List ℕ) → length ids ≡ 0 → lacks_variants (as_type_trees ts) ids ≡ true
-lacks-ids [] [] h = refl
-lacks-ids (t ∷ ts) [] h = refl
-lacks-ids ts (id ∷ ids) h = absurd (cc)
-
-pub lacks-types : (ts : List TypeTree) (ids : List ℕ) (n : ℕ) (b : Bool) → length ids ≢ 0 → length ts ≡ n → (b ≡ true → n ≡ 0) → (b ≡ false → n ≢ 0) → b ≡ lacks_variants (as_type_trees ts) ids
-lacks-types ts [] n b some e pro con = absurd (some refl)
-lacks-types [] (id ∷ ids) n true some e pro con = refl
-lacks-types [] (id ∷ ids) n false some e pro con = absurd (con refl (sym e))
-lacks-types (t ∷ ts) (id ∷ ids) n false some e pro con = refl
-lacks-types (t ∷ ts) (id ∷ ids) n true some e pro con = let f = e ∙ pro refl in absurd (omega arith)
-
-pub lacks-tested : (ts : List TypeTree) (ids : List ℕ) (n : ℕ) → length ids ≢ 0 → length ts ≡ n → (n == 0) ≡ lacks_variants (as_type_trees ts) ids
-lacks-tested ts ids zero some e = lacks-types ts ids 0 true some e (λ h. refl) (λ h. absurd (true≢false h))
-lacks-tested ts ids (suc n) some e =
-    let t : (suc n == 0) ≡ false = grind (arith, nat_tests) in
-    rw t (lacks-types ts ids (suc n) false some e (λ h. absurd (true≢false (sym h))) (λ h f. absurd (omega arith)))
-
--- the type at a place, and the rest
-pub have_empty_union-at : (i : ℕ) (ts : List DType) (t : DType) → i < length ts → t ≡ get_or ts i t
-    → have_empty_union (dtype_trees (drop i ts)) ≡ (has_empty_union (type_of t) || have_empty_union (dtype_trees (drop (suc i) ts)))
-have_empty_union-at i ts t h is = let e = drop-cons ts i t h in rw (e, ← is) refl
-
-pub rest-decides : (i : ℕ) (ts : List DType) (t : DType) (b c : Bool) → i < length ts → t ≡ get_or ts i t → b ≡ has_empty_union (type_of t) → b ≡ false → have_empty_union (dtype_trees (drop i ts)) ≡ c
-    → have_empty_union (dtype_trees (drop (i + 1) ts)) ≡ c
-rest-decides i ts t b c less is e f h =
-    let one : i + 1 ≡ suc i = omega arith in
-    ap (λ n. have_empty_union (dtype_trees (drop n ts))) one ∙ sym (or_false (has_empty_union (type_of t)) (have_empty_union (dtype_trees (drop (suc i) ts))) (sym e ∙ f)) ∙ sym (have_empty_union-at i ts t less is) ∙ h
-
-pub ruleset shown = (or_false, type_size_item, have_empty_union-at, type_of-List, type_of-FixedSizeList, type_of-Map, type_of-Struct, type_of-Union, type_of-Extension)
-
-or_both : (b c : Bool) → (b || c) ≡ false → (b ≡ false) × (c ≡ false)
-or_both false c h = (refl, h)
-or_both true c h = cc
-
-mutual
-  all-unions : (t : TypeTree) → has_empty_union t ≡ false → UnionsHaveVariants t
-  all-unions (union_type names (type_then t ts) (id ∷ ids) n) h = let both = or_both (has_empty_union t) (have_empty_union ts) h in (all-unions t both.0, all-have ts both.1)
-  all-unions (union_type names no_types ids n) h = cc
-  all-unions (union_type names (type_then t ts) [] n) h = cc
-  all-unions (list_type e n) h = all-unions e h
-  all-unions (fixed_size_list_type e size n) h = all-unions e h
-  all-unions (map_type k w sorted n) h = let both = or_both (has_empty_union k) (has_empty_union w) h in (all-unions k both.0, all-unions w both.1)
-  all-unions (struct_type names ts n) h = all-have ts h
-  all-unions (extension_type id metadata t) h = all-unions t h
-  all-unions null_type h = tt
-  all-unions (bool_type n) h = tt
-  all-unions (integer_type a n) h = tt
-  all-unions (utf8_type n) h = tt
-  all-unions (binary_type n) h = tt
-  all-unions (variant_type n) h = tt
-
-  all-have : (ts : TypeTrees) → have_empty_union ts ≡ false → AllHaveVariants ts
-  all-have no_types h = tt
-  all-have (type_then t ts) h = let both = or_both (has_empty_union t) (have_empty_union ts) h in (all-unions t both.0, all-have ts both.1)
-
--- without such a union a type whose values have keys has values
-pub dense : (t : TypeTree) (b : Bool) → b ≡ has_empty_union t → IsKeyed t → IfDense b (HasValues t)
-dense t b e keyed f = has-values t keyed.0 keyed.1 (all-unions t (sym e ∙ f))
-
-pub all-dense : (ts : TypeTrees) (b : Bool) → b ≡ have_empty_union ts → AreKeyed ts → IfDense b (AllHaveValues ts)
-all-dense ts b e keyed f = have-values ts keyed.0 keyed.1 (all-have ts (sym e ∙ f))
+use Rattle.vortex_row.proofs.ValueSteps.{bare, child-size, fields-from, from_bare, later-fields, no_null_value, no_variant_value, takes-null, to_bare}
 
 -- ---- the values of each kind of type
 
 pub null-there : (t : TypeTree) (b : Bool) → b ≡ is_nullable t → b ≡ true → HasPlain (Valid t)
 null-there t b e h = (absent, record { kind = null_valid t (takes-null t b e h); held = tt; untyped = tt })
 
-present-of : (t : TypeTree) → is_nullable t ≡ false → (v : RawTree) → IsPlain (Valid t) v → HasPlain (IsPresent t)
+pub present-of : (t : TypeTree) → is_nullable t ≡ false → (v : RawTree) → IsPlain (Valid t) v → HasPlain (IsPresent t)
 present-of t none absent plain = let n : IsNullable t = null_allowed t plain.kind in absurd (true≢false (sym (ap says_nullable n) ∙ none))
 present-of t none v plain = (v, record { kind = record { valid = plain.kind; present = refl }; held = plain.held; untyped = plain.untyped })
 
@@ -175,6 +105,16 @@ sized-told false n e some h = λ p. go p.0 p.1
     go no_raws plain = some (sym plain.kind.count)
     go (raw_then v vs) plain = h (v, record { kind = plain.kind.valid.0; held = plain.held.0; untyped = plain.untyped.0 })
 
+pub sized-there : (n : ℕ) (e : TypeTree) → 0 < n → HavePlain (AreSized n e) → HasPlain (Valid e)
+sized-there n e some h = go h.0 h.1
+  where
+    go : (vs : RawTrees) → ArePlain (AreSized n e) vs → HasPlain (Valid e)
+    go no_raws plain = let none = plain.kind.count in absurd (omega arith)
+    go (raw_then v vs) plain = (v, record { kind = plain.kind.valid.0; held = plain.held.0; untyped = plain.untyped.0 })
+
+pub no_fields : HavePlain (FieldsValid no_types)
+no_fields = (no_raws, record { kind = tt; held = tt; untyped = tt })
+
 pub first-field : (t : TypeTree) (ts : TypeTrees) → HavePlain (FieldsValid (type_then t ts)) → HasPlain (Valid t)
 first-field t ts h = go h.0 h.1
   where
@@ -189,9 +129,11 @@ then-fields t ts one more =
 at-field : (i : ℕ) (ts : List DType) (t : DType) → i < length ts → t ≡ get_or ts i t → drop i ts ≡ t ∷ drop (i + 1) ts
 at-field i ts t less is = let next : suc i ≡ i + 1 = omega arith in drop-cons ts i t less ∙ ap₂ (λ d n. d ∷ drop n ts) (sym is) next
 
+pub field-there : (i : ℕ) (ts : List DType) (t : DType) → i < length ts → t ≡ get_or ts i t → HavePlain (FieldsValid (dtype_trees ts)) → HasPlain (Valid (type_of t))
+field-there i ts t less is h = first-field (type_of t) (dtype_trees (drop (i + 1) ts)) (subst (λ ds. HavePlain (FieldsValid (dtype_trees ds))) (at-field i ts t less is) (fields-from i ts h))
+
 pub no-fields_there : (i : ℕ) (ts : List DType) (t : DType) → i < length ts → t ≡ get_or ts i t → ¬ (HasPlain (Valid (type_of t))) → ¬ (HavePlain (FieldsValid (dtype_trees ts)))
-no-fields_there i ts t less is never h =
-    never (first-field (type_of t) (dtype_trees (drop (i + 1) ts)) (subst (λ ds. HavePlain (FieldsValid (dtype_trees ds))) (at-field i ts t less is) (fields-from i ts h)))
+no-fields_there i ts t less is never h = never (field-there i ts t less is h)
 
 pub fields-more : (i : ℕ) (ts : List DType) (t : DType) → i < length ts → t ≡ get_or ts i t → HasPlain (Valid (type_of t)) → (HavePlain (FieldsValid (dtype_trees (drop i ts))) → HavePlain (FieldsValid (dtype_trees ts)))
     → HavePlain (FieldsValid (dtype_trees (drop (i + 1) ts))) → HavePlain (FieldsValid (dtype_trees ts))
@@ -217,14 +159,15 @@ one-child id ids ts small c =
       record { id = id; small = small; type = c.type; has = c.has; child = key (content k); is_key = record { value = k; plain = c.value.1; is = refl }; is = refl },
     )
 
-abbrev pub NoneBelow : ℕ → List ℕ → TypeTrees → Type 0
-NoneBelow n ids ts = (id : ℕ) → id < n → ¬ (HasChild id ids ts)
+-- no id of those before this place is of a type that has a value
+abbrev pub NoneBefore : ℕ → List ℕ → TypeTrees → Type 0
+NoneBefore n ids ts = (k id : ℕ) → k < n → slice_get ids k ≡ Present id → ¬ (HasChild id ids ts)
 
-pub none-yet : (ids : List ℕ) (ts : TypeTrees) → NoneBelow 0 ids ts
-none-yet ids ts id less = absurd (omega arith)
+pub none-yet : (ids : List ℕ) (ts : TypeTrees) → NoneBefore 0 ids ts
+none-yet ids ts k id less is = absurd (omega arith)
 
-pub none-more : (n : ℕ) (ids : List ℕ) (ts : TypeTrees) → NoneBelow n ids ts → ¬ (HasChild n ids ts) → NoneBelow (n + 1) ids ts
-none-more n ids ts before here id less c = elim (split_less id n less) [ inl below ↦ before id below c | inr same ↦ here (subst (λ i. HasChild i ids ts) same c) ]
+pub none-more : (n id : ℕ) (ids : List ℕ) (ts : TypeTrees) → NoneBefore n ids ts → slice_get ids n ≡ Present id → ¬ (HasChild id ids ts) → NoneBefore (n + 1) ids ts
+none-more n id ids ts before at here k other less is c = elim (split_less k n less) [ inl below ↦ before k other below is c | inr same ↦ here (subst (λ i. HasChild i ids ts) (same_id same) c) ]
   where
     split_less : (a b : ℕ) → a < b + 1 → (a < b) ⊎ (a ≡ b)
     split_less zero zero h = inr refl
@@ -232,11 +175,25 @@ none-more n ids ts before here id less c = elim (split_less id n less) [ inl bel
     split_less (suc a) zero h = absurd (omega arith)
     split_less (suc a) (suc b) h = elim (split_less a b (omega arith)) [ inl less ↦ inl (omega arith) | inr same ↦ inr (ap suc same) ]
 
-pub no-children : (n : ℕ) (ids : List ℕ) (ts : TypeTrees) → 256 ≤ n → NoneBelow n ids ts → ¬ (HasOne (IsChild ids ts))
+    same_id : k ≡ n → other ≡ id
+    same_id same = same_Some other id (sym is ∙ ap (slice_get ids) same ∙ at)
+
+-- the place of an id that a type has
+place-of : (id : ℕ) (ids : List ℕ) (ts : TypeTrees) (t : TypeTree) → type_with id ids ts ≡ Present t → (k : ℕ) × (slice_get ids k ≡ Present id)
+place-of id [] ts t e = absurd (cc)
+place-of id (i ∷ is) no_types t e = absurd (cc)
+place-of id (i ∷ is) (type_then u us) t e = by_test (i == id) refl e (place-of id is us t)
+  where
+    by_test : (b : Bool) → (i == id) ≡ b → (if b then Present u else type_with id is us) ≡ Present t → (type_with id is us ≡ Present t → (k : ℕ) × (slice_get is k ≡ Present id)) → (k : ℕ) × (slice_get (i ∷ is) k ≡ Present id)
+    by_test true test h go = let same : i ≡ id = grind (arith, nat_tests) in (0, ap Present same)
+    by_test false test h go = let (k, is_id) = go h in (suc k, is_id)
+
+pub no-children : (n : ℕ) (ids : List ℕ) (ts : TypeTrees) → length ids ≤ n → NoneBefore n ids ts → ¬ (HasOne (IsChild ids ts))
 no-children n ids ts all none one =
     let h = one.1 in
-    let small = h.small in
-    none h.id (omega arith) (record { type = h.type; has = h.has; value = (h.is_key.value, h.is_key.plain) })
+    let (k, is_id) = place-of h.id ids ts h.type h.has in
+    let within = slice_get_within ids k h.id is_id in
+    none k h.id (omega arith) is_id (record { type = h.type; has = h.has; value = (h.is_key.value, h.is_key.plain) })
 
 -- what a test says
 
@@ -259,29 +216,5 @@ entry-told false k w key value e f one h =
 
 pub no-entry : (k key : TypeTree) (ts : TypeTrees) → k ≡ key → ¬ (HasPlain (Valid k)) → ¬ (HavePlain (FieldsValid (type_then key ts)))
 no-entry k key ts e never p = never (subst (λ t. HasPlain (Valid t)) (sym e) (first-field key ts p))
-
--- ---- what types that are not sparse have
-
-pub dense-value : (s : Bool) (t : TypeTree) → s ≡ false → IfDense s (HasValues t) → HasPlain (Valid t)
-dense-value s t e h = some_value t (h e)
-
-pub dense-sized : (s : Bool) (n : ℕ) (t : TypeTree) → s ≡ false → IfDense s (HasValues t) → HavePlain (AreSized n t)
-dense-sized s n t e h = let (v, plain) = some_value t (h e) in some_sized n t v plain
-
-pub dense-fields : (s : Bool) (ts : TypeTrees) → s ≡ false → IfDense s (AllHaveValues ts) → HavePlain (FieldsValid ts)
-dense-fields s ts e h = some_values ts (h e)
-
-pub dense-entry : (s : Bool) (k w : TypeTree) → s ≡ false → IfDense s (HasValues k × HasValues w) → HavePlain (FieldsValid (type_then k (type_then w no_types)))
-dense-entry s k w e h = let both = h e in some_values (type_then k (type_then w no_types)) (both.0, (both.1, tt))
-
-pub dense-child : (s : Bool) (ids : List ℕ) (ts : TypeTrees) → s ≡ false → IfDense s (HasValues (union_type [] ts ids NonNullable)) → HasOne (IsChild ids ts)
-dense-child s ids ts e h = some-child ids ts (h e)
-
-pub dense-row : (ts : TypeTrees) (b : Bool) → b ≡ have_empty_union ts → b ≡ false → AreKeyed ts → HavePlain (FieldsValid ts)
-dense-row ts b e f keyed = some_values ts (all-dense ts b e keyed f)
-
--- the bytes do not go on, whether the type is sparse or not
-pub stuck-keyed : (t : TypeTree) (b : Bool) (old now : List ℕ) → b ≡ has_empty_union t → IsStuck (IfDense b (HasValues t)) (IsKey (IsPresent t)) old now → IsStuck (IsKeyed t) (IsKey (IsPresent t)) old now
-stuck-keyed t b old now e stuck = stuck-same (IsKeyed t) (IfDense b (HasValues t)) (IsKey (IsPresent t)) (IsKey (IsPresent t)) old now (dense t b e) (λ s h. h) (λ s h. h) stuck
 
 pub ruleset sizes = (bool-there, number-there, text-there, bytes-there, list-there, map-there, type_size_item, child-size, type_of-List, type_of-FixedSizeList, type_of-Map, type_of-Struct, type_of-Union, type_of-Extension)
