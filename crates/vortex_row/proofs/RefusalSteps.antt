@@ -2,10 +2,8 @@
 use Rattle.std.proofs.Common.{◌≡◌, ◌≢◌, ℕ, ◌<◌, true, false, true≢false, List, [], ◌∷◌, Option, Some as Present, refl, sym, subst, ◌∙◌}
 use Rattle.std.specs.Prelude.{Bool, Err, IsErr, Ok, Result}
 use Rattle.std.specs.Result.{IsErrAnd}
-use Rattle.vortex_dtype.specs.TypeTree.{TypeTree, TypeTrees, extension_type, integer_type, no_types, type_then, union_type, IsNullable, is_nullable}
-use Rattle.vortex_dtype.specs.declared.nullability.Nullability.{Nullability}
+use Rattle.vortex_dtype.specs.TypeTree.{TypeTree, TypeTrees, extension_type, no_types, type_then, union_type, IsNullable, is_nullable}
 use Rattle.vortex_dtype.specs.declared.nullability.Nullability.TheVariants.{NonNullable}
-use Rattle.vortex_dtype.specs.declared.ptype.PType.{PType}
 use Rattle.vortex_value.specs.Validity.{FieldsValid, Valid, type_with}
 use Rattle.vortex_value.specs.Values.Content.{contents}
 use Rattle.vortex_value.specs.Values.RawTree.{RawTree, RawTrees, no_raws, raw_then}
@@ -100,14 +98,16 @@ present-refused t nullable (Key f) start now is lacks other h = λ bad.
     let (has, stuck) = h bad in
     ((has.0, record { kind = has.1.kind.valid; held = has.1.held; untyped = has.1.untyped }), present-stuck t start start now refl other stuck)
 
-pub number-refused : (d : TypeTree) (k : PType) (n : Nullability) (e : KeyDecodeError) (old mid now : List ℕ) → d ≡ integer_type k n → HasPlain (IsPresent d) → mid ≡ old → (IsNullable d → (bs : List ℕ) → old ≢ 1 ∷ bs)
-    → (e ≡ Bad → IsStuck (IsKey (IsPresent (integer_type k NonNullable))) mid now) → Refuses (Valid d) (Key e) old now
-number-refused d k n e old mid now is has same other stuck = λ bad.
-    let t = integer_type k n in (
-      (has.0, record { kind = has.1.kind.valid; held = has.1.held; untyped = has.1.untyped }),
-      present-stuck d old mid now same other
-          (subst (λ u. IsStuck (IsKey (IsPresent u)) mid now) (sym is) (stuck-as (bare t) t mid now (bare-same t) (stuck bad))),
-    )
+-- a kind that has values, where no null comes
+pub kind-refused : (d t : TypeTree) (e : KeyDecodeError) (old mid now : List ℕ) → d ≡ t → HasPlain (IsPresent d) → mid ≡ old → (IsNullable d → (bs : List ℕ) → old ≢ 1 ∷ bs) → (e ≡ Bad → IsStuck (IsKey (IsPresent (bare t))) mid now)
+    → Refuses (Valid d) (Key e) old now
+kind-refused d t e old mid now is has same other stuck = λ bad. (
+  (has.0, record { kind = has.1.kind.valid; held = has.1.held; untyped = has.1.untyped }),
+  present-stuck d old mid now same other (subst (λ u. IsStuck (IsKey (IsPresent u)) mid now) (sym is) (stuck-as (bare t) t mid now (bare-same t) (stuck bad))),
+)
+
+pub puts-from : (One : RawTree → Type 0) (r : Result Unit ValueError) (parts more : List (Option ScalarValue)) (old mid now : List ℕ) → mid ≡ old → PutsOne One r parts more mid now → PutsOne One r parts more old now
+puts-from One r parts more old mid now same h = subst (λ xs. PutsOne One r parts more xs now) same h
 
 -- ---- tuples
 

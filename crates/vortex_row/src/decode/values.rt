@@ -9,7 +9,7 @@ ghost use Rattle.vortex_row.specs.Reading.{ReadsInto, ReadsOne, entry_type, left
 ghost use Rattle.vortex_row.specs.Words.{IsNullable, NonNullable, Valid, absent, as_type_trees, dtype_trees};
 ghost use Rattle.vortex_row.specs.Words.{fixed_size_list_type, integer_type, list_type, map_of, map_type, raw_of};
 ghost use Rattle.vortex_row.specs.Words.{raw_union, struct_type, type_of, type_with, union_tree, union_type};
-ghost use Rattle.vortex_row.specs.Words.{value_tree, variants_of};
+ghost use Rattle.vortex_row.specs.Words.{utf8_type, value_tree, variants_of};
 ghost use Rattle.vortex_row.specs.declared.reader.KeyDecodeError.TheVariants.{NoMemory};
 
 use super::inhabited::{
@@ -18,8 +18,9 @@ use super::inhabited::{
 };
 use super::leaves::{put_number, put_text, read_binary, read_primitive, read_truth, read_utf8};
 use super::numbers::read_number;
+use super::strings::read_text;
 use crate::reader::{KeyDecodeError, Reader, ValueError};
-use crate::tags::{END, NULL, SEQUENCE, TAGGED};
+use crate::tags::{END, NULL, SEQUENCE, TAGGED, TEXT};
 use std::alloc::Global;
 use vortex_dtype::{DType, MapDType, PType, UnionVariants};
 use vortex_value::{ScalarValue, UnionValue};
@@ -111,7 +112,23 @@ fn push_number(
     push(Some(ScalarValue::Primitive(number)), parts)
 }
 
-/// Puts an optional value of the type to the others.
+/// Puts a text to the others.
+#[tactic(auto, using(crate::proofs::LeafSteps::shown))]
+#[inline(never)]
+fn push_text(
+    alloc: Global,
+    reader: &mut Reader<'_>,
+    parts: &mut Vec<Option<ScalarValue>>,
+) -> Result<(), KeyDecodeError>
+    ensures { Puts (IsPresent (utf8_type NonNullable)) result
+        parts.old.items parts.new.items (left reader.old) (left reader.new) }
+{
+    reader.take(TEXT)?;
+    let text = read_text(alloc, reader)?;
+    push(Some(ScalarValue::Utf8(text)), parts)
+}
+
+/// Puts an optional value of the type to the others, where no null comes.
 #[cycle(read)]
 #[inline(never)]
 fn push_value(
@@ -120,15 +137,19 @@ fn push_value(
     reader: &mut Reader<'_>,
     parts: &mut Vec<Option<ScalarValue>>,
 ) -> Result<(), ValueError>
+    requires { IsNullable (type_of dtype.now) → (bs : List ℕ) → left reader.old ≢ 1 ∷ bs }
     ensures { PutsOne (Valid (type_of dtype.now)) result
         parts.old.items parts.new.items (left reader.old) (left reader.new) }
 {
-    let value = read(alloc, dtype, reader)?;
-    Ok(push(value, parts)?)
+    let start = *reader;
+    match read_value(alloc, dtype, reader) {
+        Ok(value) => Ok(push(Some(value), parts)?),
+        Err(error) => Err(of_nullable(dtype, start, error, reader)),
+    }
 }
 
 /// Puts an optional value of the type to the others. Numbers are read in the loop that asks for
-/// them, without a call.
+/// them, without a call. They and texts are put there at once, which spares the moves of a result.
 #[cycle(read)]
 #[inline(always)]
 fn push_next(
@@ -140,13 +161,12 @@ fn push_next(
     ensures { PutsOne (Valid (type_of dtype.now)) result
         parts.old.items parts.new.items (left reader.old) (left reader.new) }
 {
+    if takes_null(dtype, reader) {
+        return Ok(push(None, parts)?);
+    }
     match dtype {
-        DType::Primitive(ptype, _) => {
-            if takes_null(dtype, reader) {
-                return Ok(push(None, parts)?);
-            }
-            Ok(push_number(*ptype, reader, parts)?)
-        }
+        DType::Primitive(ptype, _) => Ok(push_number(*ptype, reader, parts)?),
+        DType::Utf8(_) => Ok(push_text(alloc, reader, parts)?),
         _ => push_value(alloc, dtype, reader, parts),
     }
 }

@@ -54,7 +54,7 @@ abbrev pub decreases-read_union : goal.decreases-read_union
 decreases-read_union l = 8 * types_size (as_type_trees (variants_of l.variants.now).types) + 2
 
 abbrev pub decreases-push_value : goal.decreases-push_value
-decreases-push_value l = 8 * type_size (type_of l.dtype.now) + 2
+decreases-push_value l = 8 * type_size (type_of l.dtype.now) + 1
 
 abbrev pub decreases-push_next : goal.decreases-push_next
 decreases-push_next l = 8 * type_size (type_of l.dtype.now) + 3
