@@ -26,6 +26,7 @@ pub mod number_laws;
 #[cfg(test)]
 mod numbers;
 pub mod orders;
+pub mod patterns;
 pub mod places;
 pub mod prepared;
 #[cfg(test)]
