@@ -5,7 +5,9 @@ ghost use Rattle.std.specs.Str.{chars};
 ghost use Rattle.like_patterns.specs.Patterns.{is_like};
 ghost use Rattle.like_patterns.specs.declared.case.Case.TheVariants.{Sensitive};
 
-use like_patterns::laws::{exact_match, matches_begin_with_prefix, prefix_matches, texts_come_back};
+use like_patterns::laws::{
+    exact_match, matches_begin_with_prefix, prefix_matches, texts_come_back,
+};
 use like_patterns::{Pattern, PatternError};
 use std::alloc::Global;
 

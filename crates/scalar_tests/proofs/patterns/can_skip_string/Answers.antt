@@ -17,5 +17,5 @@ returns c =
     let prefix : leading c.args.pattern.now ≡ chars c.prefix.result.now = chars_from_encodes (leading c.args.pattern.now) c.prefix.result.now c.prefix.utf8 (sym c.prefix.ensures) in
     skips c.begins_with.result (matches c.args.pattern.now cs)
     (λ met.
-        let begins = c.matches_begin_with_prefix.ensures c.args.pattern.now cs met in
-        c.begins_with.ensures.1 (begins.0, begins.1 ∙ ap (λ (front : List ℕ). front ++ begins.0) prefix))
+    let begins = c.matches_begin_with_prefix.ensures c.args.pattern.now cs met in
+    c.begins_with.ensures.1 (begins.0, begins.1 ∙ ap (λ (front : List ℕ). front ++ begins.0) prefix))
