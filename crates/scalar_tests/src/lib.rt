@@ -38,6 +38,7 @@ pub mod rust_values;
 mod sizes;
 pub mod skipped_zones;
 pub mod statistics_laws;
+pub mod stored_floats;
 #[cfg(test)]
 mod streams;
 #[cfg(test)]
@@ -51,5 +52,6 @@ pub mod view_laws;
 mod views;
 #[cfg(test)]
 mod whole_runs;
+pub mod words_of_values;
 pub mod zone_statistics;
 pub mod zones;

@@ -2,8 +2,7 @@
 use Rattle.std.proofs.Common.{◌≡◌, ◌∙◌, ℕ, List, IfOk, Option, Some, Result, Ok, Err, ap, sym}
 use Rattle.std.proofs.lemmas.Option.{same_Some}
 use Rattle.std.proofs.lemmas.Str.{chars_from_encodes}
-use Rattle.std.specs.Str.{chars, encode_utf8_all}
-use Rattle.like_patterns.specs.Patterns.{Part}
+use Rattle.std.specs.Str.{chars}
 use Rattle.like_patterns.specs.Texts.{pattern_of, pattern_text}
 use Rattle.like_patterns.specs.declared.error.PatternError.{PatternError}
 use Rattle.like_patterns.specs.declared.pattern.Pattern.{Pattern}
