@@ -21,6 +21,7 @@ mod items;
 pub mod key_laws;
 pub mod key_returns;
 pub mod keyed;
+pub mod literal_places;
 pub mod members;
 pub mod number_laws;
 #[cfg(test)]
