@@ -1,14 +1,15 @@
 //! An index is loaded, and a filter read over its columns.
 
-use crate::column_words::columns_text;
+use crate::column_lists::columns_text;
 use crate::commands::SearchRequest;
 use crate::files::{index_name, stamp_of};
 use crate::index_files::{IndexError, IndexFile};
 use crate::matching::{in_own_case, nearest_name};
-use crate::program_errors::{BadFilter, FileError, ProgramError};
-use crate::setup::Setup;
+use crate::program_errors::{BAD_DELIMITER, BadFilter, FileError, ProgramError};
+use csv_columns::Setup;
 use filter_sql::{Column, ParseError, parse};
-use record_search::{RowDescriber, RowFilter, Schema};
+use record_rows::{Schema, dtype_of};
+use record_search::{RowDescriber, RowFilter};
 use std::alloc::{AllocError, Global};
 use std::fs::File;
 use std::io::ErrorKind;
@@ -104,6 +105,14 @@ fn setup_of(alloc: Global, name: &str, root: &Root) -> Result<Setup, ProgramErro
     }
 }
 
+/// The schema of a setup, if the byte between its fields is a delimiter.
+pub fn schema_of(alloc: Global, setup: &Setup) -> Result<Schema, ProgramError> {
+    match setup.schema(alloc)? {
+        Some(schema) => Ok(schema),
+        None => Err(ProgramError::Fixed(BAD_DELIMITER)),
+    }
+}
+
 /// An index, and what is sought by it.
 #[derive(Drop)]
 pub struct Searched {
@@ -189,7 +198,7 @@ impl Sought {
 
     /// This filter over the columns of a setup.
     fn of_filter(alloc: Global, setup: Setup, filter: Filter) -> Result<Sought, ProgramError> {
-        match setup.schema(alloc) {
+        match schema_of(alloc, &setup) {
             Ok(schema) => Ok(Sought {
                 setup,
                 schema,
@@ -222,7 +231,7 @@ impl Sought {
 /// The filter that a text is over the columns of a setup. A name that no column has exactly is that of the
 /// one that has it in another case.
 fn filter_in(alloc: Global, setup: &Setup, text: &str) -> Result<Filter, ProgramError> {
-    let columns = setup.filter_columns(alloc)?;
+    let columns = filter_columns(alloc, setup)?;
     let mut own = String::from_str(alloc, text)?;
     for _ in 0..text.len() {
         match parse(alloc, &own, &columns) {
@@ -240,6 +249,17 @@ fn filter_in(alloc: Global, setup: &Setup, text: &str) -> Result<Filter, Program
         Ok(filter) => Ok(filter),
         Err(error) => Err(filter_fault(alloc, setup, text, &columns, error)),
     }
+}
+
+/// The columns of a setup, as filters name them.
+fn filter_columns(alloc: Global, setup: &Setup) -> Result<Vec<Column>, AllocError> {
+    let mut columns = Vec::new(alloc);
+    for named in &setup.columns {
+        let name = String::from_str(alloc, &named.name)?;
+        let dtype = dtype_of(alloc, named.column)?;
+        columns.push(Column { name, dtype })?;
+    }
+    Ok(columns)
 }
 
 /// The error of a filter over the columns of a setup.
