@@ -1,5 +1,5 @@
 -- The fields of a record, and the guesses that have seen them.
-use Rattle.std.proofs.Common.{◌≡◌, ◌⊎◌, inl, inr, ℕ, zero, suc, ◌+◌, ◌<◌, ◌≤◌, Bool, true, false, List, [], ◌∷◌, ◌++◌, Option, Some, None, drop, length, get_or, set, map, nat_lt, take, refl, sym, ap, subst, ◌∙◌, arith, append_assoc, append-nil, length-append, if◌then◌else◌}
+use Rattle.std.proofs.Common.{◌≡◌, ◌⊎◌, inl, inr, ℕ, zero, suc, ◌+◌, ◌<◌, ◌≤◌, Bool, true, false, List, [], ◌∷◌, ◌++◌, Some, length, get_or, set, map, nat_lt, refl, sym, ap, subst, ◌∙◌, arith, append_assoc, append-nil, length-append, if◌then◌else◌}
 use Rattle.std.proofs.lemmas.Bool.{cases_order, cond-false, cond-true, le-ltb, lt-ltb}
 use Rattle.std.proofs.Math.Seq.{drop-append_seam, take-append_seam}
 use Rattle.std.proofs.lemmas.List.{get_or-map, map-append}
@@ -9,7 +9,7 @@ use Rattle.std.proofs.lemmas.Option.{none-some, same_Some, slice_get-get_or}
 use Rattle.std.specs.Global.{Global}
 use Rattle.std.specs.Prelude.{All, Contains, Err, IfOk, IsUtf8, Ok, Result, slice_get, string_bytes, ◌≢◌}
 use Rattle.std.specs.declared.string.String.{String}
-use Rattle.std.specs.List.{flat_map, onto_first}
+use Rattle.std.specs.List.{onto_first}
 use Rattle.csv_records.specs.Fields.{IsCut}
 use Rattle.csv_records.specs.Records.{records_of}
 use Rattle.csv_records.specs.Rows.{Field, field_rows}

@@ -1,5 +1,5 @@
 -- What is guessed for words, and that each word is a value of it.
-use Rattle.std.proofs.Common.{◌≡◌, ◌≢◌, ◌⊎◌, inl, inr, ℕ, zero, suc, ◌+◌, ◌^◌, ◌<◌, ◌≤◌, ◌==◌, ◌&&◌, ℤ, Bool, true, false, max, cond, nat_le, nat_lt, List, [], ◌∷◌, ◌++◌, Option, Some, None, length, refl, sym, ap, subst, ◌∙◌, arith, if◌then◌else◌}
+use Rattle.std.proofs.Common.{◌≡◌, inl, inr, ℕ, ◌+◌, ◌^◌, ◌≤◌, ◌==◌, ◌&&◌, ℤ, Bool, true, false, max, cond, nat_le, nat_lt, List, [], ◌∷◌, ◌++◌, Option, Some, None, length, refl, sym, ap, subst, ◌∙◌, arith}
 use Rattle.std.proofs.lemmas.Bool.{and_from, and_parts, cases_Bool, cond-false, cond-true, false≢true, leb-true, lt-ltb}
 use Rattle.std.proofs.lemmas.Bool.Decides.{nat_tests}
 use Rattle.std.proofs.lemmas.List.{length-append}
@@ -12,7 +12,7 @@ use Rattle.std.specs.List.{find, list_all}
 use Rattle.std.specs.Option.{option_and_then, option_or}
 use Rattle.std.specs.Str.Parse.{signed_digits_value}
 use Rattle.logical_types.specs.Decimals.{decimal_value}
-use Rattle.logical_types.specs.Shapes.{Shape, days, decimals, float64, shape_of, storage_in, timestamps}
+use Rattle.logical_types.specs.Shapes.{Shape, days, decimals, shape_of, storage_in}
 use Rattle.logical_types.specs.Words.{Writes}
 use Rattle.logical_types.specs.declared.logical.LogicalType.{LogicalType}
 use Rattle.record_rows.specs.Cells.{HasMeaning, stored_content}

@@ -9,7 +9,7 @@ use Rattle.std.proofs.lemmas.List.Sums.{get_or-le-sum_by}
 use Rattle.std.specs.Prelude.{codes, min, string_bytes}
 use Rattle.std.specs.declared.string.String.{String}
 use Rattle.std.specs.Global.{Global}
-use Rattle.csv_columns.specs.Names.{IsLine, IsName, made_up, texts}
+use Rattle.csv_columns.specs.Names.{IsName, made_up, texts}
 use Rattle.csv_columns.proofs.Clear.{decimal_lacks}
 
 -- a name that is one of these is no longer than all of them

@@ -1,5 +1,5 @@
 -- Worked cases of the kinds that are guessed, each a theorem.
-use Rattle.std.specs.Prelude.{◌≡◌, List, [], ◌∷◌, true, false, codes, refl}
+use Rattle.std.specs.Prelude.{◌≡◌, [], ◌∷◌, true, false, codes, refl}
 use Rattle.logical_types.specs.ShapeExamples.{on_words}
 use Rattle.logical_types.specs.Shapes.{days, decimals, timestamps}
 use Rattle.logical_types.specs.declared.times.TimeUnit.TheVariants.{Microseconds}

@@ -1,5 +1,5 @@
 -- The kind that is guessed for the words of a column.
-use Rattle.std.specs.Prelude.{◌≡◌, ◌==◌, ◌&&◌, ◌||◌, ◌+◌, ◌<◌, ℕ, max, Bool, true, false, not, List, [], ◌∷◌, Option, Some, None, drop, is_some, length, nat_le, nat_lt, option_map, if◌then◌else◌}
+use Rattle.std.specs.Prelude.{◌≡◌, ◌==◌, ◌&&◌, ◌||◌, ◌+◌, ℕ, max, Bool, true, false, not, List, [], ◌∷◌, Option, Some, None, drop, is_some, length, nat_le, nat_lt, option_map, if◌then◌else◌}
 use Rattle.std.specs.Char.{is_ascii_digit}
 use Rattle.std.specs.Int.{is_in_range}
 use Rattle.std.specs.List.{after_first, before_first, find, list_all}

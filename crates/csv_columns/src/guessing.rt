@@ -1,12 +1,12 @@
 //! Columns are guessed from the first records.
 
-ghost use Rattle.std.specs.Prelude.{◌≡◌, ◌≢◌, Contains, MatchBool, ◌<◌, ◌∷◌, ◌++◌, [], ℕ, All, AllPairs, IfOk};
-ghost use Rattle.std.specs.Prelude.{IsSome, List, MatchOption, OnOk, if◌then◌else◌, length, nat_lt};
+ghost use Rattle.std.specs.Prelude.{◌≡◌, ◌≢◌, ◌<◌, ◌∷◌, ◌++◌, [], ℕ, All, AllPairs, Contains, IfOk};
+ghost use Rattle.std.specs.Prelude.{IsSome, List, MatchBool, MatchOption, OnOk, if◌then◌else◌, length, nat_lt};
 ghost use Rattle.std.specs.Str.{is_utf8};
 ghost use Rattle.csv_records.specs.Rows.{Field};
 ghost use Rattle.record_rows.specs.Readings.{is_null_field};
 ghost use Rattle.vortex_dtype.specs.declared.nullability.Nullability.TheVariants.{Nullable};
-ghost use Rattle.csv_columns.specs.Guesses.{NamesOthers, AreColumns, AreGuesses, HaveNumbers, IsColumn, See};
+ghost use Rattle.csv_columns.specs.Guesses.{AreColumns, AreGuesses, HaveNumbers, IsColumn, NamesOthers, See};
 ghost use Rattle.csv_columns.specs.Guesses.{TakeFields, column_count, column_names, column_words, field_lists};
 ghost use Rattle.csv_columns.specs.Guesses.{field_of, fields_left, fields_of, header_names, left_of, without_mark};
 ghost use Rattle.csv_columns.specs.Guesses.{word_at, word_of};

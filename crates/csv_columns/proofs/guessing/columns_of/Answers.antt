@@ -1,5 +1,5 @@
 -- One column more.
-use Rattle.std.proofs.Common.{◌≡◌, ◌+◌, ◌∙◌, ◌++◌, ◌∷◌, [], Bool, List, ap, arith, length, length-append, refl, rules, subst, sym, ℕ}
+use Rattle.std.proofs.Common.{◌≡◌, ◌+◌, ◌∙◌, ◌++◌, ◌∷◌, [], List, ap, length, length-append, refl, rules, subst, sym, ℕ}
 use Rattle.std.specs.Prelude.{if◌then◌else◌, nat_lt}
 use Rattle.csv_columns.specs.Guesses.{AreColumns, HaveNumbers, column_names}
 use Rattle.csv_columns.specs.Kinds.{Sees}
@@ -25,12 +25,12 @@ loop-name-preserved c =
           (column_named old at.yielded named c.in-Some.name at.invariant.0 refl),
       ap length more_flags ∙ wide_flags ∙ ap (λ (n : ℕ). n + 1) at.invariant.1 ∙ sym (ap length more ∙ wide),
       (λ words see.
-        let each = λ (k : ℕ). if nat_lt k (length c.args.guesses.now) then words k else [] in
-        let sees : Sees c.guess_at-guess.result (each (length old)) = subst (λ (n : ℕ). Sees c.guess_at-guess.result (each n)) place (seen words see) in
-        subst (AreColumns each) (sym more) (columns_more each old named (at.invariant.2.0 words see) (c.column_of_guess.ensures (each (length old)) sees))),
+          let each = λ (k : ℕ). if nat_lt k (length c.args.guesses.now) then words k else [] in
+          let sees : Sees c.guess_at-guess.result (each (length old)) = subst (λ (n : ℕ). Sees c.guess_at-guess.result (each n)) place (seen words see) in
+          subst (AreColumns each) (sym more) (columns_more each old named (at.invariant.2 words see) (c.column_of_guess.ensures (each (length old)) sees))),
       (λ words see.
-        let each = λ (k : ℕ). if nat_lt k (length c.args.guesses.now) then words k else [] in
-        let here : c.len.result ≡ length flags = place ∙ sym at.invariant.1 in
-        let sees : Sees c.guess_at-guess.result (each (length flags)) = subst (λ (n : ℕ). Sees c.guess_at-guess.result (each n)) here (seen words see) in
-        subst (HaveNumbers each) (sym more_flags) (flags_more each flags flag (at.invariant.2.1 words see) (c.has_numbers_as_text.ensures (each (length flags)) sees))),
+          let each = λ (k : ℕ). if nat_lt k (length c.args.guesses.now) then words k else [] in
+          let here : c.len.result ≡ length flags = place ∙ sym at.invariant.1 in
+          let sees : Sees c.guess_at-guess.result (each (length flags)) = subst (λ (n : ℕ). Sees c.guess_at-guess.result (each n)) here (seen words see) in
+          subst (HaveNumbers each) (sym more_flags) (flags_more each flags flag (at.invariant.3 words see) (c.has_numbers_as_text.ensures (each (length flags)) sees))),
     )

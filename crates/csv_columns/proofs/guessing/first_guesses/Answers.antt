@@ -1,9 +1,9 @@
 -- A field more, and the end of the row.
-use Rattle.std.proofs.Common.{◌≡◌, ◌∙◌, ◌∷◌, List, [], rules, subst, sym}
+use Rattle.std.proofs.Common.{◌≡◌, ◌∙◌, ◌∷◌, List, [], subst, sym}
 use Rattle.csv_columns.specs.Guesses.{field_of, fields_left, fields_of}
 use Rattle.csv_records.specs.declared.delimiter.Delimiter.{Delimiter}
 use Rattle.csv_columns.specs.declared.kinds.Guess.{Guess}
-use Rattle.csv_columns.proofs.Columns.{AllBegun, Begun, all_begun, first_sees, none_begun, one_begun}
+use Rattle.csv_columns.proofs.Columns.{Begun, all_begun, first_sees, none_begun, one_begun}
 use Rattle.csv_columns.proofs.guessing.first_guesses.Goals as goal
 
 pub loop-buffer-init : goal.loop-buffer-init

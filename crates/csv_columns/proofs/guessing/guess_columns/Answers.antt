@@ -2,9 +2,8 @@
 use Rattle.std.proofs.Common.{◌≡◌, ◌∙◌, List, ap, length, max, rules, subst, sym, ℕ}
 use Rattle.std.proofs.lemmas.List.{length-map}
 use Rattle.std.specs.Prelude.{string_bytes}
-use Rattle.csv_columns.specs.Guesses.{AreColumns, HaveNumbers, TakeFields, column_count, column_names, column_words, field_lists, header_names, width_of}
+use Rattle.csv_columns.specs.Guesses.{column_count, field_lists, header_names, width_of}
 use Rattle.csv_columns.specs.Names.{KeepsNames, texts}
-use Rattle.csv_columns.specs.declared.column_words.NamedColumn.{NamedColumn}
 use Rattle.csv_columns.proofs.Columns.{columns_guessed, name_bytes, numbers_guessed, ok_then, take_fields}
 use Rattle.csv_columns.proofs.guessing.guess_columns.Goals as goal
 
@@ -15,11 +14,11 @@ returns-clause-count c =
     let names = c.in_ok-names.names.items in
     let guessed : c.len.result ≡ width_of rows = (let l : c.len.result ≡ length c.in_ok-guesses.guesses.items = search rules in l) ∙ c.in_ok-guesses.ensures.count in
     let given : c.len-2.result ≡ length header =
-        (let l : c.len-2.result ≡ length c.in_ok-given.given.items = search rules in l)
-        ∙ sym (length-map c.in_ok-given.given.items string_bytes) ∙ ap length c.in_ok-given.ensures in
+    (let l : c.len-2.result ≡ length c.in_ok-given.given.items = search rules in l)
+    ∙ sym (length-map c.in_ok-given.given.items string_bytes) ∙ ap length c.in_ok-given.ensures in
     let most : c.max-count.result ≡ column_count rows header =
-        (let m : c.max-count.result ≡ max (max c.len.result c.len-2.result) 1 = search rules in m)
-        ∙ ap (λ (n : ℕ). max (max n c.len-2.result) 1) guessed ∙ ap (λ (n : ℕ). max (max (width_of rows) n) 1) given in
+    (let m : c.max-count.result ≡ max (max c.len.result c.len-2.result) 1 = search rules in m)
+    ∙ ap (λ (n : ℕ). max (max n c.len-2.result) 1) guessed ∙ ap (λ (n : ℕ). max (max (width_of rows) n) 1) given in
     let count : length names ≡ column_count rows header = c.in_ok-names.ensures.count ∙ most in
     ok_then c.columns_of.result _ _ c.columns_of.ensures.names
     (λ guessed same. sym (length-map guessed.columns.items name_bytes) ∙ ap length same ∙ length-map names string_bytes ∙ count)

@@ -1,5 +1,5 @@
 -- One record more, and all of them.
-use Rattle.std.proofs.Common.{◌≡◌, List, [], length, rules, subst, sym}
+use Rattle.std.proofs.Common.{◌≡◌, List, length, rules, subst, sym}
 use Rattle.csv_columns.specs.declared.kinds.Guess.{Guess}
 use Rattle.csv_columns.proofs.Columns.{Guessed, all_guessed, none_guessed, one_guessed}
 use Rattle.csv_columns.proofs.guessing.guesses_of.Goals as goal

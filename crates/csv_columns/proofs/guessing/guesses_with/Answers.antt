@@ -1,5 +1,5 @@
 -- The first guesses, or those that were there, have seen one record more.
-use Rattle.std.proofs.Common.{◌≡◌, ◌<◌, ◌∙◌, ◌++◌, ◌∷◌, [], List, ap, arith, drop, length, refl, rules, subst, sym, take, ℕ}
+use Rattle.std.proofs.Common.{◌≡◌, ◌<◌, ◌∙◌, ◌++◌, ◌∷◌, [], List, ap, drop, length, rules, subst, sym, take, ℕ}
 use Rattle.std.proofs.Math.Seq.{take-append_seam}
 use Rattle.std.specs.Global.{Global}
 use Rattle.std.specs.Prelude.{Err, IfOk, Ok, Result, Vec}
@@ -37,6 +37,6 @@ returns c =
     let wide : c.args.guesses.len ≡ length old = search rules in
     let same : length new ≡ length old = c.in_ok-see_record.ensures.count ∙ ap length c.deref_mut.ensures.value in
     λ rows are.
-      subst (AreGuesses c.args.reading.now (rows ++ row ∷ [])) (sym (written_back new old c.args.guesses.len same wide))
-      (more_guessed d c.args.reading.now rows row old new are some same
-      (λ words see. c.in_ok-see_record.ensures.see words (subst (See words) (sym c.deref_mut.ensures.value) see)))
+    subst (AreGuesses c.args.reading.now (rows ++ row ∷ [])) (sym (written_back new old c.args.guesses.len same wide))
+    (more_guessed d c.args.reading.now rows row old new are some same
+    (λ words see. c.in_ok-see_record.ensures.see words (subst (See words) (sym c.deref_mut.ensures.value) see)))

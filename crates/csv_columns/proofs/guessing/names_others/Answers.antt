@@ -1,5 +1,6 @@
 -- The header's names are more, and each column has one of them.
 use Rattle.std.proofs.Common.{◌≡◌, ◌∙◌, ◌<◌, ◌≤◌, Bool, true, false, List, ap, arith, length, rules, subst, sym, ℕ}
+use Rattle.std.proofs.lemmas.Bool.{le-ltb}
 use Rattle.std.proofs.lemmas.List.{length-map}
 use Rattle.std.specs.Prelude.{All, Contains, MatchBool, string_bytes}
 use Rattle.csv_columns.specs.Guesses.{NamesOthers, column_names, header_names}
@@ -12,6 +13,10 @@ more_named : (named : Bool) (header given : List (List ℕ)) → length given < 
     → MatchBool named (NamesOthers header given) (¬ (NamesOthers header given))
 more_named true header given more all = (more, all)
 more_named false header given more none = λ both. none both.1
+
+no_more_named : (named : Bool) (header given : List (List ℕ)) → named ≡ false → length header ≤ length given → MatchBool named (NamesOthers header given) (¬ (NamesOthers header given))
+no_more_named named header given is few =
+    subst (λ (b : Bool). MatchBool b (NamesOthers header given) (¬ (NamesOthers header given))) (sym is) (λ both. absurd (omega (arith, both.0)))
 
 pub returns : goal.returns
 returns c =
@@ -30,5 +35,6 @@ returns c =
           subst (λ (b : Bool). MatchBool b (NamesOthers header given) (¬ (NamesOthers header given))) (sym w.result-is) (more_named w.are_named.result header given more named)
       | else-columns-len w ↦
           let few : length header ≤ length given = omega (arith, w.if-columns-len.false) in
-          subst (λ (b : Bool). MatchBool b (NamesOthers header given) (¬ (NamesOthers header given))) (sym w.result-is) (λ both. absurd (omega (arith, both.0)))
+          subst (λ (b : Bool). MatchBool b (NamesOthers header given) (¬ (NamesOthers header given))) (sym w.result-is)
+          (no_more_named _ header given (le-ltb (length columns) c.len.result w.if-columns-len.false) few)
     ]

@@ -1,5 +1,5 @@
 -- What `parse` says of a plain number, and none of another word.
-use Rattle.std.proofs.Common.{◌≡◌, ◌∙◌, List, ap, subst, sym, ℕ}
+use Rattle.std.proofs.Common.{◌∙◌, List, subst, ℕ}
 use Rattle.std.specs.Int.{w64}
 use Rattle.std.specs.Str.Parse.{ParsesSigned, ParsesUnsigned}
 use Rattle.vortex_dtype.specs.declared.ptype.PType.TheVariants.{I64, U64}

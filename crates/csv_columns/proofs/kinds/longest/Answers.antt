@@ -1,5 +1,5 @@
 -- No number before, none in the word, or the longest of both.
-use Rattle.std.proofs.Common.{◌≡◌, ◌∙◌, ℕ, Some, ap, length, max, sym}
+use Rattle.std.proofs.Common.{◌≡◌, ◌∙◌, ap, length, max, sym}
 use Rattle.csv_columns.specs.Kinds.{fraction_of, place_count, size_of, whole_count, whole_of}
 use Rattle.csv_columns.proofs.GuessLaws.{digits_more, no_digits_before, no_digits_in, same_digits}
 use Rattle.csv_columns.proofs.kinds.longest.Goals as goal

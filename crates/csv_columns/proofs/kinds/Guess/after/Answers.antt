@@ -1,8 +1,7 @@
 -- Each part after one more word.
-use Rattle.std.proofs.Common.{◌≡◌, ◌∙◌, ◌∷◌, ◌++◌, [], Bool, List, false, sym, true, ℕ}
-use Rattle.std.specs.List.{list_all}
+use Rattle.std.proofs.Common.{◌∙◌, false, sym, true}
 use Rattle.vortex_dtype.specs.declared.ptype.PType.TheVariants.{I64, U64}
-use Rattle.csv_columns.specs.Kinds.{Sees, is_integer}
+use Rattle.csv_columns.specs.Kinds.{is_integer}
 use Rattle.csv_columns.proofs.GuessLaws.{all_more, some_more}
 use Rattle.csv_columns.proofs.kinds.Guess.after.Goals as goal
 use Rattle.csv_columns.proofs.kinds.Guess.after.Goals.{then-self, else-self, then-self-2, else-self-2}
