@@ -242,3 +242,7 @@ told p (NotAValue offset) h = record { offset = offset; is = refl; place = h.0; 
 told p OutOfMemory h = absurd h
 told p NoEncoding h = absurd h
 told p (BadBytes place) h = absurd h
+
+-- the walk through its filter began behind the version and the types
+pub first_told : (p : Prepared) (count start place : ℕ) → count ≡ capped (length (listed type_bytes p.types)) → start ≡ capped (count + 1) → (n : ℕ) × (place ≡ capped (start + n)) × FirstIn p.filter n → IsNoValueOf p (NotAValue place)
+first_told p count start place e s h = (h.0, omega (arith, e, s, h.1), h.2)

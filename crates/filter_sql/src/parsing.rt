@@ -47,7 +47,8 @@ pub const MAX_DEPTH: usize = 256;
 /// and Unknown for a null.
 ///
 /// `TooDeep` if more than `MAX_DEPTH` connectives and parentheses nest. Of several mistakes the
-/// first one from the front is told.
+/// first one from the front is told. Memory is asked for the tokens of the text before the first of
+/// them is judged, so `OutOfMemory` may come in place of each answer.
 pub fn parse(alloc: Global, text: &str, columns: &[Column]) -> Result<Filter, ParseError>
     // What is read is what the grammar says.
     ensures read { IfOk result (λ filter.

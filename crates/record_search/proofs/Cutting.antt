@@ -17,6 +17,9 @@ guard_some : {A : Type 0} (b : Bool) (x : Option A) (y : A) → (if b then None 
 guard_some true x y e = absurd cc
 guard_some false x y e = (refl, e)
 
+first_is : (p q : List ℕ × List ℕ) → Some p ≡ Some q → p ≡ q
+first_is p q e = cc
+
 -- the piece that is cut from the front, and the bytes of its length
 cut_at : (bytes piece rest : List ℕ) → piece_in bytes ≡ Some (piece, rest) → (x : List ℕ) × (piece_at bytes ≡ Ok (x, rest))
 unfolding piece_at
@@ -25,7 +28,7 @@ cut_at bytes piece rest e =
     let r = drop 8 bytes in
     let long = guard_some (nat_lt (length bytes) 8) (piece_of n r) (piece, rest) e in
     let full = guard_some (nat_lt (length r) n) (Some (take n r, drop n r)) (piece, rest) long.1 in
-    let behind : drop n r ≡ rest = cc (full.1) in
+    let behind : drop n r ≡ rest = ap (λ (p : List ℕ × List ℕ). p.1) (first_is (take n r, drop n r) (piece, rest) full.1) in
     let read : piece_at bytes ≡ Ok (take (8 + n) bytes, drop (8 + n) bytes) = rw (long.0, full.0) refl in
     let there : drop (8 + n) bytes ≡ rest = sym (drop-drop n 8 bytes) ∙ behind in
     (take (8 + n) bytes, read ∙ ap (λ (l : List ℕ). Ok (take (8 + n) bytes, l)) there)

@@ -1,5 +1,5 @@
 -- The rows of records are observed, one after another.
-use Rattle.std.proofs.Common.{◌≡◌, ◌<◌, ◌≤◌, ◌+◌, ◌^◌, ◌++◌, ℕ, zero, suc, List, [], ◌∷◌, Bool, true, false, if◌then◌else◌, Option, None, Some, Result, Ok, Err, MatchOption, is_none, is_some, unwrap_or, refl, sym, ap, ◌∙◌, subst, get_or, length, map, take, arith, append_assoc, append-nil, length-append}
+use Rattle.std.proofs.Common.{◌≡◌, ◌<◌, ◌≤◌, ◌+◌, ◌^◌, ◌++◌, ℕ, zero, suc, List, [], ◌∷◌, Bool, true, false, if◌then◌else◌, Option, None, Some, Result, Ok, Err, MatchOption, is_none, is_some, unwrap_or, refl, sym, ap, ◌∙◌, subst, get_or, length, map, take, arith, nat_lt, append_assoc, append-nil, length-append}
 use Rattle.std.specs.Int.{from_bool}
 use Rattle.std.specs.List.{AllByRecursion, filter_map, sum_by}
 use Rattle.std.specs.Prelude.{OnOk}
@@ -98,9 +98,15 @@ nulls_observed say s line old new notes h =
     ap (λ (cs : List ColumnType). untaken s.reading cs fields) h.2.0.columns_are ∙ ap (untaken s.reading (map (λ (t : Step). t.column) h.2.0.steps)) h.2.0.fields_are ∙ steps_untaken say s.reading h.2.0.steps h.2.0.each in
     h.2.0.count ∙ sym all ∙ sym (ap (untaken_of s.reading columns) h.1)
 
+one_or_none : (b : Bool) → from_bool b ≡ (if b then 1 else 0)
+one_or_none true = refl
+one_or_none false = refl
+
 -- whether the record is longer is noted
 pub longer_observed : (s : Schema) (line : List ℕ) (old new : List ColumnStatistics) (notes : RowNotes) → IsObserved s.delimiter.byte s.reading s.columns.items line old new notes → from_bool notes.is_longer ≡ longer_under s line
-longer_observed s line old new notes h = ap from_bool h.2.1 ∙ sym (ap (longer_of s.columns.items) h.1)
+longer_observed s line old new notes h =
+    let columns = s.columns.items in
+    ap from_bool h.2.1 ∙ one_or_none (nat_lt (length columns) (length h.0)) ∙ sym (ap (longer_of columns) h.1)
 
 -- a record without fields has none that are noted
 pub none_noted : (s : Schema) (line : List ℕ) → rows_of s.delimiter.byte line ≡ [] → (0 ≡ nulls_under s line) × (0 ≡ longer_under s line)

@@ -21,10 +21,13 @@ mod items;
 pub mod key_laws;
 pub mod key_returns;
 pub mod keyed;
+pub mod literal_places;
+pub mod members;
 pub mod number_laws;
 #[cfg(test)]
 mod numbers;
 pub mod orders;
+pub mod patterns;
 pub mod places;
 pub mod prepared;
 #[cfg(test)]
@@ -36,6 +39,7 @@ pub mod rust_values;
 mod sizes;
 pub mod skipped_zones;
 pub mod statistics_laws;
+pub mod stored_floats;
 #[cfg(test)]
 mod streams;
 #[cfg(test)]
@@ -49,5 +53,6 @@ pub mod view_laws;
 mod views;
 #[cfg(test)]
 mod whole_runs;
+pub mod words_of_values;
 pub mod zone_statistics;
 pub mod zones;

@@ -1,4 +1,4 @@
-//! The README's file, run.
+//! The file that docs/RATTLE.md shows, run.
 
 use crate::tour::{may_contain, thousand_as};
 use vortex_array::{Nullability, PType, Scalar, VortexError};

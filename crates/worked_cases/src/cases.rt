@@ -18,6 +18,8 @@ fn answer_line<'a>(run: Run<'a>, line: &'a [u8]) -> Result<AnsweredLine<'a>, All
     statistics_calls::answer(&mut line);
     filter_calls::answer(&mut line);
     logical_calls::answer(&mut line);
+    membership_calls::answer(&mut line);
+    pattern_calls::answer(&mut line);
     let expected = line.expected();
     Ok(AnsweredLine {
         answer: line.into_answer()?,

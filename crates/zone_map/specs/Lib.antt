@@ -1,7 +1,1 @@
-pub mod GuessExamples
-pub mod Guesses
-pub mod KindExamples
-pub mod Kinds
-pub mod Names
-pub mod Setups
 pub mod Zones

@@ -6,8 +6,8 @@ use std::alloc::{AllocError, Global};
 
 /// What the help of the program ends with.
 const ABOUT_STATUS: &str =
-    "The status is 0 if a row was found, 1 if none was, and 2 after a fault. \
-    zone_map COMMAND --help has the words of a command.
+    "The status is 0 if a row was found, 1 if none was, and 2 after an error. \
+    zone_map COMMAND --help lists the options of a command.
 
 Example:
   zone_map index trips.csv --header
@@ -15,19 +15,23 @@ Example:
 
 /// What the help of a command ends with that makes an index.
 const ABOUT_COLUMNS: &str =
-    "Kinds are i8, i16, i32, i64, u8, u16, u32 and u64 in decimal, f64, f32, decimal(10,2), date, time(us), timestamp(us), \
-    timestamp(us,UTC), utf8, bytes as they are, and binary in hexadecimal digits; units are s, ms, us and ns. \
-    A name with other than letters, digits, _ and $ stands in double quotes. \
-    Without --columns the kinds are guessed from the first 1000 records, and told. So are those of columns that --columns leaves out \
-    and --header names.";
+    "Kinds are i8, i16, i32, i64, u8, u16, u32 and u64 in decimal, f64, f32, decimal(10,2), date, time(us), \
+    timestamp(us), timestamp(us,UTC), utf8, bytes as they are, and binary in hexadecimal digits; \
+    units are s, ms, us and ns. \
+    A name with other characters than letters, digits, _ and $ is written in double quotes. \
+    Without --columns the kinds are guessed from the first 1000 records, and reported. \
+    So are those of columns that --columns leaves out and --header names.";
 
 /// What the help of a command ends with that searches.
 const ABOUT_FILTERS: &str =
     "Filters compare a column with a literal by = <> != < <= > >=, between .. and .., in (..), like 'abc%', is null, \
-    and join tests by and, or, not and parentheses. Literals are 12, 10.5, 'text', '2026-03-01', x'00ff' and null. \
-    Columns are names, in double quotes where they are no words, or $1, $2 ..; of a file without named columns, line is the whole line.
+    and join tests by and, or, not and parentheses. \
+    Literals are 12, 10.5, 'text', '2026-03-01', x'00ff' and null. \
+    Columns are names, in double quotes where they are no words, or $1, $2 ..; \
+    of a file without named columns, line is the whole line.
 
-Without FILE.zones, and with --whole, --columns, --delimiter, --header, --null or --lenient, the file is searched whole.";
+Without FILE.zones, and with --whole, --columns, --delimiter, --header, --null or --lenient, \
+    the file is searched whole.";
 
 /// What the words ask for.
 #[derive(Drop)]
@@ -259,7 +263,9 @@ fn index_command<'a>(alloc: Global) -> Result<Command<'a>, AllocError> {
 fn find_command<'a>(alloc: Global) -> Result<Command<'a>, AllocError> {
     let about =
         "Write the rows that match, as they stand in the file; the status is 1 if there is none";
-    search_command(alloc, "find", about)?.arg(flag(alloc, "numbers").help(
+    let told =
+        "Report on standard error how many zones were skipped, copied and searched, and how many bytes were read";
+    search_command(alloc, "find", about, told)?.arg(flag(alloc, "numbers").help(
         "Write the number of its record and a colon before each row",
     ))
 }
@@ -267,7 +273,9 @@ fn find_command<'a>(alloc: Global) -> Result<Command<'a>, AllocError> {
 /// The command that counts rows.
 fn count_command<'a>(alloc: Global) -> Result<Command<'a>, AllocError> {
     let about = "Write how many rows match; the status is 1 if there is none";
-    search_command(alloc, "count", about)
+    let told =
+        "Report on standard error how many zones were searched, and how many bytes were read";
+    search_command(alloc, "count", about, told)
 }
 
 /// The command that shows zones.
@@ -277,25 +285,24 @@ fn show_command<'a>(alloc: Global) -> Result<Command<'a>, AllocError> {
         .arg(file_arg(alloc, "The file of records"))
 }
 
-/// A command that searches.
+/// A command that searches, and on demand reports what it did, which a text says.
 fn search_command<'a>(
     alloc: Global,
     name: &'a str,
     about: &'a str,
+    told: &'a str,
 ) -> Result<Command<'a>, AllocError> {
     let command = Command::new(alloc, name)
         .about(about)
         .after_help(ABOUT_FILTERS)
         .arg(file_arg(alloc, "The file of records, or - for standard input"))?
         .arg(filter_arg(alloc))?
-        .arg(flag(alloc, "tell").help(
-            "Tell on standard error what became of the zones, and how many bytes were read",
-        ))?
+        .arg(flag(alloc, "tell").help(told))?
         .arg(flag(alloc, "grown").help(
             "Search a file that was only appended to since it was indexed: what is new, too",
         ))?
         .arg(flag(alloc, "whole").help(
-            "Search the whole file without its index, as the next five words do",
+            "Search the whole file without its index, as the next five options do",
         ))?;
     add_reading(alloc, command)
 }
@@ -381,13 +388,15 @@ fn bytes_arg<'a>(alloc: Global) -> Arg<'a> {
         .value_name("N")
         .value_parser(value_parser!(usize))
         .default_value("24")
-        .help("The length in bytes to which bounds are cut that are strings or bytes")
+        .help("The length in bytes to which bounds of strings and bytes are cut")
 }
 
 /// Whether an index is extended.
 fn append_arg<'a>(alloc: Global) -> Result<Arg<'a>, AllocError> {
     flag(alloc, "append")
-        .help("Extend the index of a file that was only appended to, with its own rows and bytes")
+        .help(
+            "Extend the index of a file that was only appended to; --rows and --bytes stay what they were",
+        )
         .conflicts_with("columns")?
         .conflicts_with("delimiter")?
         .conflicts_with("header")?

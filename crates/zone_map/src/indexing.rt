@@ -3,19 +3,18 @@
 ghost use Rattle.std.specs.Prelude.{◌⊎◌};
 ghost use Rattle.zone_map.specs.Zones.{GoesOn, Reopens};
 
-use crate::column_words::NamedColumn;
 use crate::commands::IndexRequest;
 use crate::files::{at_place, buffered, from_place, open_file, save, stamp_of};
 use crate::grown::{end_of, grown_end};
-use crate::loading::{Loaded, load_there};
+use crate::loading::{Loaded, load_there, schema_of};
 use crate::locating::located;
 use crate::preparing::{Prepared, prepare};
 use crate::program_errors::{FileError, ProgramError};
-use crate::setup::{Numbers, Setup};
 use crate::watching::Watched;
+use csv_columns::{NamedColumn, Numbers, Setup};
 use logical_types::{StorageType, storage_type};
-use record_rows::Kind;
-use record_search::{RowDescriber, Schema, index_rows};
+use record_rows::{Kind, Schema};
+use record_search::{RowDescriber, index_rows};
 use std::alloc::Global;
 use std::fs::File;
 use std::process::ExitCode;
@@ -140,7 +139,7 @@ fn grown_by(
     loaded: &Loaded,
     file: &mut File,
 ) -> Result<u64, ProgramError> {
-    let schema = loaded.setup.schema(rt.alloc())?;
+    let schema = schema_of(rt.alloc(), &loaded.setup)?;
     let describer = RowDescriber {
         schema: &schema,
         bound_length: loaded.setup.numbers.bound_length,
@@ -176,7 +175,7 @@ fn finish(
     unfinished: Unfinished,
 ) -> Result<(), ProgramError> {
     let Unfinished { mut loaded, place } = unfinished;
-    let schema = loaded.setup.schema(rt.alloc())?;
+    let schema = schema_of(rt.alloc(), &loaded.setup)?;
     let (nulls, longer) = add_zones(rt, name, file, &schema, place, &mut loaded)?;
     save(rt, name, loaded.setup.columns.len(), &loaded.index)?;
     if schema.reading.is_lenient() {

@@ -1,14 +1,15 @@
 //! An index is loaded, and a filter read over its columns.
 
-use crate::column_words::columns_text;
+use crate::column_lists::columns_text;
 use crate::commands::SearchRequest;
 use crate::files::{index_name, stamp_of};
 use crate::index_files::{IndexError, IndexFile};
 use crate::matching::{in_own_case, nearest_name};
-use crate::program_errors::{BadFilter, FileError, ProgramError};
-use crate::setup::Setup;
+use crate::program_errors::{BAD_DELIMITER, BadFilter, FileError, ProgramError};
+use csv_columns::Setup;
 use filter_sql::{Column, ParseError, parse};
-use record_search::{RowDescriber, RowFilter, Schema};
+use record_rows::{Schema, dtype_of};
+use record_search::{RowDescriber, RowFilter};
 use std::alloc::{AllocError, Global};
 use std::fs::File;
 use std::io::ErrorKind;
@@ -52,9 +53,31 @@ fn loaded_from<R: ReadAt>(
     file: &mut IndexFile<R>,
 ) -> Result<Loaded, ProgramError> {
     let (root, start) = root_from(alloc, name, file)?;
-    let setup = setup_of(alloc, name, &root)?;
-    let index = index_from(alloc, name, file, root, start, &[])?;
-    Ok(Loaded { index, setup })
+    match setup_of(alloc, name, &root) {
+        Ok(setup) => loaded_with(alloc, name, file, root, start, setup),
+        Err(fault) => {
+            drop(root);
+            Err(fault)
+        }
+    }
+}
+
+/// The index of a root whose first block begins at this place, with all its statistics, and its setup.
+fn loaded_with<R: ReadAt>(
+    alloc: Global,
+    name: &str,
+    file: &mut IndexFile<R>,
+    root: Root,
+    start: u64,
+    setup: Setup,
+) -> Result<Loaded, ProgramError> {
+    match index_from(alloc, name, file, root, start, &[]) {
+        Ok(index) => Ok(Loaded { index, setup }),
+        Err(fault) => {
+            drop(setup);
+            Err(fault)
+        }
+    }
 }
 
 /// The root of the index that a file of this name is, and the place of its first block.
@@ -104,6 +127,14 @@ fn setup_of(alloc: Global, name: &str, root: &Root) -> Result<Setup, ProgramErro
     }
 }
 
+/// The schema of a setup, if the byte between its fields is a delimiter.
+pub fn schema_of(alloc: Global, setup: &Setup) -> Result<Schema, ProgramError> {
+    match setup.schema(alloc)? {
+        Some(schema) => Ok(schema),
+        None => Err(ProgramError::Fixed(BAD_DELIMITER)),
+    }
+}
+
 /// An index, and what is sought by it.
 #[derive(Drop)]
 pub struct Searched {
@@ -141,15 +172,66 @@ fn searched_from<R: ReadAt>(
     file: &mut IndexFile<R>,
 ) -> Result<Searched, ProgramError> {
     let (root, start) = root_from(alloc, name, file)?;
-    let setup = setup_of(alloc, name, &root)?;
-    let sought = Sought::from_text(alloc, setup, request.filter)?;
-    let wanted = columns_wanted(alloc, request, &sought)?;
-    let index = index_from(alloc, name, file, root, start, &wanted)?;
-    Ok(Searched {
-        index,
-        read: file.read,
-        sought,
-    })
+    match sought_by(alloc, request, name, &root) {
+        Ok(sought) => searched_for(alloc, request, name, file, root, start, sought),
+        Err(fault) => {
+            drop(root);
+            Err(fault)
+        }
+    }
+}
+
+/// What a request seeks by an index with this root.
+fn sought_by(
+    alloc: Global,
+    request: &SearchRequest<'_>,
+    name: &str,
+    root: &Root,
+) -> Result<Sought, ProgramError> {
+    let setup = setup_of(alloc, name, root)?;
+    Sought::from_text(alloc, setup, request.filter)
+}
+
+/// What a request seeks, and the index of a root whose first block begins at this place.
+fn searched_for<R: ReadAt>(
+    alloc: Global,
+    request: &SearchRequest<'_>,
+    name: &str,
+    file: &mut IndexFile<R>,
+    root: Root,
+    start: u64,
+    sought: Sought,
+) -> Result<Searched, ProgramError> {
+    match wanted_index(alloc, request, name, file, root, start, &sought) {
+        Ok(index) => Ok(Searched {
+            index,
+            read: file.read,
+            sought,
+        }),
+        Err(fault) => {
+            drop(sought);
+            Err(fault)
+        }
+    }
+}
+
+/// The index of a root whose first block begins at this place, with the statistics that are wanted.
+fn wanted_index<R: ReadAt>(
+    alloc: Global,
+    request: &SearchRequest<'_>,
+    name: &str,
+    file: &mut IndexFile<R>,
+    root: Root,
+    start: u64,
+    sought: &Sought,
+) -> Result<Index, ProgramError> {
+    match columns_wanted(alloc, request, sought) {
+        Ok(wanted) => index_from(alloc, name, file, root, start, &wanted),
+        Err(error) => {
+            drop(root);
+            Err(ProgramError::from(error))
+        }
+    }
 }
 
 /// Whether the statistics of each column are wanted: those of the columns that the filter names, and
@@ -189,7 +271,7 @@ impl Sought {
 
     /// This filter over the columns of a setup.
     fn of_filter(alloc: Global, setup: Setup, filter: Filter) -> Result<Sought, ProgramError> {
-        match setup.schema(alloc) {
+        match schema_of(alloc, &setup) {
             Ok(schema) => Ok(Sought {
                 setup,
                 schema,
@@ -222,7 +304,7 @@ impl Sought {
 /// The filter that a text is over the columns of a setup. A name that no column has exactly is that of the
 /// one that has it in another case.
 fn filter_in(alloc: Global, setup: &Setup, text: &str) -> Result<Filter, ProgramError> {
-    let columns = setup.filter_columns(alloc)?;
+    let columns = filter_columns(alloc, setup)?;
     let mut own = String::from_str(alloc, text)?;
     for _ in 0..text.len() {
         match parse(alloc, &own, &columns) {
@@ -240,6 +322,17 @@ fn filter_in(alloc: Global, setup: &Setup, text: &str) -> Result<Filter, Program
         Ok(filter) => Ok(filter),
         Err(error) => Err(filter_fault(alloc, setup, text, &columns, error)),
     }
+}
+
+/// The columns of a setup, as filters name them.
+fn filter_columns(alloc: Global, setup: &Setup) -> Result<Vec<Column>, AllocError> {
+    let mut columns = Vec::new(alloc);
+    for named in &setup.columns {
+        let name = String::from_str(alloc, &named.name)?;
+        let dtype = dtype_of(alloc, named.column)?;
+        columns.push(Column { name, dtype })?;
+    }
+    Ok(columns)
 }
 
 /// The error of a filter over the columns of a setup.

@@ -1,7 +1,7 @@
 //! Where a record stands that has no row.
 
-use crate::column_words::NamedColumn;
 use crate::program_errors::{BadRecord, ProgramError, RecordPlace, search_fault_text};
+use csv_columns::NamedColumn;
 use std::fs::File;
 use std::io::{self, Read};
 use zone_index::SearchError;

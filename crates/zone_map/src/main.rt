@@ -4,22 +4,18 @@
 #![tactic(auto)]
 
 mod answering;
-mod column_words;
+mod column_lists;
 mod commands;
 mod files;
 mod grown;
-mod guessing;
 mod index_files;
 mod indexing;
-mod kinds;
 mod loading;
 mod locating;
 mod matching;
-mod names;
 mod preparing;
 mod program_errors;
 mod searching;
-mod setup;
 mod showing;
 mod streams;
 mod telling;

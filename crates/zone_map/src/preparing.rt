@@ -1,14 +1,16 @@
 //! The beginning of a stream is read, which says how its records are read.
 
-use crate::column_words::{NamedColumn, columns_in, columns_text, push_name};
+use crate::column_lists::{NameText, columns_in, columns_text};
 use crate::commands::Reading;
-use crate::guessing::{Guessed, guess_columns, names_in};
-use crate::names::{is_line, stands_in};
-use crate::program_errors::ProgramError;
-use crate::setup::{Numbers, Setup, delimiter_in, reading_of};
+use crate::program_errors::{BAD_DELIMITER, ProgramError};
+use csv_columns::{
+    Guessed, NO_DELIMITER, NamedColumn, Numbers, Setup, guess_columns, is_line, names_others,
+    reading_of,
+};
 use csv_records::Delimiter;
 use record_rows::ColumnType;
 use std::alloc::{AllocError, Global};
+use std::fmt::Write;
 use std::io::BufRead;
 use zone_index::{SearchError, take_records};
 
@@ -67,6 +69,20 @@ pub fn prepare<B: BufRead>(
     })
 }
 
+/// The delimiter that a word says: one byte, `tab`, or `none`. Without a word it is a comma.
+fn delimiter_in(word: Option<&str>) -> Result<Delimiter, ProgramError> {
+    let byte = match word.unwrap_or(",").as_bytes() {
+        [byte] => *byte,
+        b"tab" => b'\t',
+        b"none" => NO_DELIMITER,
+        _ => return Err(ProgramError::Fixed(BAD_DELIMITER)),
+    };
+    match Delimiter::new(byte) {
+        Some(delimiter) => Ok(delimiter),
+        None => Err(ProgramError::Fixed(BAD_DELIMITER)),
+    }
+}
+
 /// The words that are nulls, each of one line.
 fn null_words(alloc: Global, words: &[&str]) -> Result<Vec<String>, ProgramError> {
     let mut nulls = Vec::new(alloc);
@@ -105,8 +121,7 @@ fn guesses_others(
     if reading.columns.is_none() {
         return Ok(true);
     }
-    let names = names_in(alloc, delimiter, header)?;
-    Ok(given.len() < names.len() && given.iter().all(|column| stands_in(&names, &column.name)))
+    names_others(alloc, delimiter, header, given)
 }
 
 /// The columns that are guessed, but for those that are given, and what is to be told of them.
@@ -157,9 +172,10 @@ fn column_named(columns: &[NamedColumn], name: &str) -> Option<ColumnType> {
 
 /// Adds what is told of a column whose words are numbers, and that is text all the same.
 fn add_note(name: &str, notes: &mut String) -> Result<(), AllocError> {
-    notes.push_str("\nthe words of ")?;
-    push_name(notes, name)?;
-    notes.push_str(" are numbers, and taken as text; --columns '")?;
-    push_name(notes, name)?;
-    notes.push_str(" f64?' takes them as numbers")
+    let name = NameText(name);
+    write!(
+        notes,
+        "\nthe words of {name} are numbers, and taken as text; --columns '{name} f64?' takes them as numbers"
+    )?;
+    Ok(())
 }

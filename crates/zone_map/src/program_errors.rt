@@ -1,6 +1,7 @@
 //! Why the program stops.
 
-use crate::column_words::{NamedColumn, is_plain_name};
+use crate::column_lists::NameText;
+use csv_columns::NamedColumn;
 use filter_sql::ParseError;
 use std::alloc::{AllocError, AllocFailed, Global};
 use std::fmt::{self, Display, Formatter, Write};
@@ -19,6 +20,10 @@ pub enum ProgramError {
 
 /// What is said if no memory is left.
 const NO_MEMORY: &str = "out of memory";
+
+/// What is said of a byte that is no delimiter.
+pub const BAD_DELIMITER: &str =
+    "--delimiter: one byte, and no quote, line feed or carriage return; or tab, or none";
 
 impl ProgramError {
     /// The error of a text, if there was memory for it.
@@ -205,7 +210,8 @@ impl Display for BadRecord<'_> {
             Cause::Word { column, word } => write_bad_word(f, self.columns, *column, word),
             Cause::FieldCount => write!(
                 f,
-                "the record has fewer fields than the {} columns, or more; --lenient takes it, where columns take nulls",
+                "the record has fewer fields than the {} columns, or more; \
+                --lenient takes it, where columns take nulls",
                 self.columns.len()
             ),
             Cause::LoneReturn => {
@@ -243,28 +249,12 @@ fn write_ways_out<W: Write>(f: &mut Formatter<W>, named: &NamedColumn, word: &[u
     };
     let takes_null = named.column.nullability == Nullability::Nullable;
     let mark = if takes_null { "?" } else { "" };
-    f.write_str("; --columns '")?;
-    write_name(f, &named.name)?;
-    write!(f, " {kind}{mark}' takes it as {taken}")?;
+    let name = NameText(&named.name);
+    write!(f, "; --columns '{name} {kind}{mark}' takes it as {taken}")?;
     if takes_null {
         f.write_str("; --lenient takes it as a null")?;
     }
     Ok(())
-}
-
-/// Writes the name of a column as `--columns` reads it.
-fn write_name<W: Write>(f: &mut Formatter<W>, name: &str) -> fmt::Result {
-    if is_plain_name(name) {
-        return f.write_str(name);
-    }
-    f.write_str("\"")?;
-    for letter in name.chars() {
-        if letter == '"' {
-            f.write_str("\"")?;
-        }
-        write!(f, "{letter}")?;
-    }
-    f.write_str("\"")
 }
 
 /// Writes a word: as text in quotes where it is UTF-8, else as hexadecimal digits.

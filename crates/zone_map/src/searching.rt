@@ -93,9 +93,22 @@ fn search_indexed(
     let file = open_file(rt, request.file)?;
     let before = stamp_of(rt.alloc(), request.file, &file)?;
     let mut reader = with_log(rt.alloc(), file);
-    let rest = rest_of(rt, request, searched, before, &mut reader)?;
+    let found = search_logged(rt, request, searched, before, &mut reader);
+    drop(reader);
+    found
+}
+
+/// Searches a file by its index, which was so before, and tells on demand what was done.
+fn search_logged(
+    rt: &HostRuntime,
+    request: &SearchRequest<'_>,
+    searched: &Searched,
+    before: Stamp,
+    reader: &mut Logged<File>,
+) -> Result<u64, ProgramError> {
+    let rest = rest_of(rt, request, searched, before, reader)?;
     let compared = reader.asked.len();
-    match answer_indexed(rt, request.wanted, searched, rest, &mut reader) {
+    match answer_indexed(rt, request.wanted, searched, rest, reader) {
         Ok(found) => {
             if request.tells {
                 let told = Told::of(searched, found, rest, &reader.asked, compared);

@@ -1,9 +1,10 @@
 //! Zones are shown.
 
-use crate::column_words::{NamedColumn, columns_text};
-use crate::loading::{Loaded, load_there};
+use crate::column_lists::columns_text;
+use crate::loading::{Loaded, load_there, schema_of};
 use crate::program_errors::ProgramError;
 use crate::streams::{flushed, output};
+use csv_columns::NamedColumn;
 use logical_scalars::word_of_scalar;
 use record_rows::{ColumnType, Kind};
 use record_search::read_statistics;
@@ -19,7 +20,7 @@ use zone_index::{SearchError, Zone};
 /// bounds of its columns.
 pub fn show(rt: &HostRuntime, file: &str) -> Result<ExitCode, ProgramError> {
     let loaded = load_there(rt, file)?;
-    let schema = loaded.setup.schema(rt.alloc())?;
+    let schema = schema_of(rt.alloc(), &loaded.setup)?;
     let mut writer = output(rt)?;
     let done = show_zones(rt.alloc(), &loaded, &schema.columns, &mut writer);
     flushed(done, writer.flush().map_err(|_| SearchError::Write))?;

@@ -1,13 +1,12 @@
 //! Files without an index and standard input are searched whole.
 
 use crate::answering::{count_stream, find_stream, first_row};
-use crate::column_words::NamedColumn;
 use crate::commands::{SearchRequest, Wanted};
 use crate::loading::Sought;
 use crate::locating::located;
 use crate::preparing::{Prepared, prepare};
 use crate::program_errors::ProgramError;
-use crate::setup::{NO_DELIMITER, Numbers, Setup};
+use csv_columns::{NO_DELIMITER, NamedColumn, Numbers, Setup};
 use record_rows::{ColumnType, Kind};
 use std::alloc::Global;
 use std::io::{BufRead, BufWriter, Read, Stdout};

@@ -1,8 +1,11 @@
 -- What is found in each kind of filter.
-use Rattle.std.proofs.Common.{ℕ, Result, ◌∙◌, ap, map, rules, subst, sym}
+use Rattle.std.proofs.Common.{◌≡◌, ℕ, ◌+◌, Result, length, ◌∙◌, ap, map, rules, subst, sym}
 use Rattle.vortex_cells.specs.Cells.{cell_of}
 use Rattle.vortex_filter.specs.Formula.{Formula, formula}
+use Rattle.vortex_filter.specs.declared.filter.Filter.{Filter}
 use Rattle.vortex_filter.proofs.Steps.{formula-And, formula-Between, formula-Compare, formula-Constant, formula-In, formula-IsNull, formula-Not, formula-Or, formula-StartsWith}
+use Rattle.vortex_value.specs.Size.{capped}
+use Rattle.filter_encoding.specs.Encoding.{FirstIn, HasValues, node_bytes}
 use Rattle.filter_encoding.specs.declared.values.NoValue.{NoValue}
 use Rattle.filter_encoding.proofs.NoValueLaws.{FilterPasses, both_passed, both_refused, comparison_passes, either_passed, either_refused, membership_passes, negation_passes, null_passes, prefix_passes, range_passes}
 use Rattle.filter_encoding.proofs.values.+behind_filter.Goals as goal
@@ -10,6 +13,16 @@ use Rattle.filter_encoding.proofs.values.+behind_filter.Goals as goal
 -- of a filter with this formula
 of_formula : (f g : Formula) (offset : ℕ) (r : Result ℕ NoValue) → f ≡ g → FilterPasses g offset r → FilterPasses f offset r
 of_formula f g offset r e h = subst (λ (p : Formula). FilterPasses p offset r) (sym e) h
+
+-- of the part that the code borrows
+part_passes : (d f : Filter) (offset : ℕ) (r : Result ℕ NoValue) → d ≡ f → FilterPasses (formula d) offset r → FilterPasses (formula f) offset r
+part_passes d f offset r e h = subst (λ (x : Filter). FilterPasses (formula x) offset r) e h
+
+part_refused : (d f : Filter) (offset : ℕ) (e : NoValue) → d ≡ f → (n : ℕ) × (e.offset ≡ capped (offset + n)) × FirstIn (formula d) n → (n : ℕ) × (e.offset ≡ capped (offset + n)) × FirstIn (formula f) n
+part_refused d f offset e is h = subst (λ (x : Filter). (n : ℕ) × (e.offset ≡ capped (offset + n)) × FirstIn (formula x) n) is h
+
+part_passed : (d f : Filter) (offset end : ℕ) → d ≡ f → HasValues (formula d) × (end ≡ capped (offset + length (node_bytes (formula d)))) → HasValues (formula f) × (end ≡ capped (offset + length (node_bytes (formula f))))
+part_passed d f offset end is h = subst (λ (x : Filter). HasValues (formula x) × (end ≡ capped (offset + length (node_bytes (formula x))))) is h
 
 pub returns-in-Compare : goal.returns-in-Compare
 returns-in-Compare t c =
@@ -33,3 +46,32 @@ pub returns-in-In : goal.returns-in-In
 returns-in-In t c =
     of_formula _ _ c.args.offset c.behind_literals.result (ap formula c.in-In.is ∙ formula-In c.in-In.column c.in-In.literals)
     (membership_passes c.in-In.column c.args.offset _ c.behind_literals.result (map cell_of c.in-In.literals.items) c.saturating_add-in-In.ensures (search rules))
+
+pub returns-in_err-middle-in-And : goal.returns-in_err-middle-in-And
+returns-in_err-middle-in-And t c =
+    of_formula _ _ c.args.offset c.from_residual.result (ap formula c.in-And.is ∙ formula-And c.in-And.left c.in-And.right)
+    (both_refused (formula c.in-And.left.value) (formula c.in-And.right.value) c.args.offset _ c.saturating_add-in-And.ensures c.from_residual.result _ c.from_residual.ensures
+    (part_refused c.deref-in-And.result.now c.in-And.left.value _ _ (search rules) c.in_err-middle-in-And.ensures))
+
+pub returns-in_ok-middle-in-And : goal.returns-in_ok-middle-in-And
+returns-in_ok-middle-in-And t c =
+    of_formula _ _ c.args.offset c.behind_filter.result (ap formula c.in-And.is ∙ formula-And c.in-And.left c.in-And.right)
+    (both_passed (formula c.in-And.left.value) (formula c.in-And.right.value) c.args.offset _ c.saturating_add-in-And.ensures c.in_ok-middle-in-And.middle c.behind_filter.result
+    (part_passed c.deref-in-And.result.now c.in-And.left.value _ _ (search rules) c.in_ok-middle-in-And.ensures) (part_passes c.deref-in-And-2.result.now c.in-And.right.value _ _ (search rules) c.behind_filter.ensures))
+
+pub returns-in_err-middle-in-Or : goal.returns-in_err-middle-in-Or
+returns-in_err-middle-in-Or t c =
+    of_formula _ _ c.args.offset c.from_residual-in-Or.result (ap formula c.in-Or.is ∙ formula-Or c.in-Or.one c.in-Or.other)
+    (either_refused (formula c.in-Or.one.value) (formula c.in-Or.other.value) c.args.offset _ c.saturating_add-in-Or.ensures c.from_residual-in-Or.result _ c.from_residual-in-Or.ensures
+    (part_refused c.deref-in-Or.result.now c.in-Or.one.value _ _ (search rules) c.in_err-middle-in-Or.ensures))
+
+pub returns-in_ok-middle-in-Or : goal.returns-in_ok-middle-in-Or
+returns-in_ok-middle-in-Or t c =
+    of_formula _ _ c.args.offset c.behind_filter-in-Or.result (ap formula c.in-Or.is ∙ formula-Or c.in-Or.one c.in-Or.other)
+    (either_passed (formula c.in-Or.one.value) (formula c.in-Or.other.value) c.args.offset _ c.saturating_add-in-Or.ensures c.in_ok-middle-in-Or.middle c.behind_filter-in-Or.result
+    (part_passed c.deref-in-Or.result.now c.in-Or.one.value _ _ (search rules) c.in_ok-middle-in-Or.ensures) (part_passes c.deref-in-Or-2.result.now c.in-Or.other.value _ _ (search rules) c.behind_filter-in-Or.ensures))
+
+pub returns-in-Not : goal.returns-in-Not
+returns-in-Not t c =
+    of_formula _ _ c.args.offset c.behind_filter-in-Not.result (ap formula c.in-Not.is ∙ formula-Not c.in-Not.inner)
+    (negation_passes (formula c.in-Not.inner.value) c.args.offset _ c.behind_filter-in-Not.result c.saturating_add-in-Not.ensures (part_passes c.deref-in-Not.result.now c.in-Not.inner.value _ _ (search rules) c.behind_filter-in-Not.ensures))

@@ -254,7 +254,7 @@ push_next-returns-in_err-push_text-in-Utf8 t c =
     puts-passed _ _ _ _ _ _ _ c.from_residual-in_err-push_text-in-Utf8.ensures (kind-refused (type_of c.args.dtype.now) (utf8_type c.in-Utf8.field-0) _ _ _ _ e (text-there c.args.dtype.now c.in-Utf8.field-0 c.in-Utf8.is) (c.takes_null.ensures.unchanged c.if-takes_null.false) (c.takes_null.ensures.other c.if-takes_null.false) c.in_err-push_text-in-Utf8.ensures)
 
 pub push_next-push_value-requires : goal.push_next-push_value-requires
-push_next-push_value-requires t c = λ n bs e. c.takes_null.ensures.other c.if-takes_null.false n bs (sym (c.takes_null.ensures.unchanged c.if-takes_null.false) ∙ e)
+push_next-push_value-requires t c = (omega arith, λ n bs e. c.takes_null.ensures.other c.if-takes_null.false n bs (sym (c.takes_null.ensures.unchanged c.if-takes_null.false) ∙ e))
 
 pub push_next-returns-in_default : goal.push_next-returns-in_default
 push_next-returns-in_default t c =

@@ -1,8 +1,0 @@
--- A text that begins with no minus.
-use Rattle.std.proofs.Common.{None, arith}
-use Rattle.std.proofs.lemmas.Str.Pattern.{strip_prefix_char}
-use Rattle.zone_map.proofs.PlainNumbers.{no_minus}
-use Rattle.zone_map.proofs.kinds.size_of.Goals as goal
-
-pub returns-in-None : goal.returns-in-None
-returns-in-None c = no_minus c.args.text.now (strip_prefix_char 45 c.args.text.now None c.in-None.ensures.cases (omega arith))

@@ -1,9 +1,0 @@
--- The text has the lines of the words so far.
-use Rattle.std.proofs.Common.{◌≡◌, ◌++◌, take}
-use Rattle.std.specs.Prelude.{string_bytes}
-use Rattle.zone_map.specs.Names.{texts}
-use Rattle.zone_map.specs.Setups.{null_lines}
-use Rattle.zone_map.proofs.setup.push_nulls.Given as goal
-
-abbrev pub invariant-loop-null : goal.invariant-loop-null
-invariant-loop-null l = string_bytes l.text ≡ string_bytes l.initial.text ++ null_lines (texts (take l.null-index l.nulls))
