@@ -1,10 +1,10 @@
 //! The bytes of types.
 
-ghost use Rattle.std.specs.Prelude.{◌≡◌, ◌+◌, IfSome, MatchOption, map, option_map};
+ghost use Rattle.std.specs.Prelude.{◌≡◌, ◌+◌, IfSome, MatchOption, length, map, option_map};
 ghost use Rattle.std.specs.List.{AllByRecursion};
 ghost use Rattle.filter_encoding.specs.Words.{AreListed, AreSo, HasByte, IsPlain, Reads, ReadsByte, ReadsType, Writes};
-ghost use Rattle.filter_encoding.specs.Words.{byte_string, each_bytes, integer_code, left, listed, null_code, plain_at};
-ghost use Rattle.filter_encoding.specs.Words.{type_at, type_byte, type_bytes, type_of};
+ghost use Rattle.filter_encoding.specs.Words.{byte_string, capped, each_bytes, integer_code, left, listed, null_code};
+ghost use Rattle.filter_encoding.specs.Words.{plain_at, type_at, type_byte, type_bytes, type_of};
 
 use crate::error::FilterEncodingError;
 use crate::extensions::{

@@ -1,5 +1,5 @@
 -- One byte, the keys, and the byte of the storage.
-use Rattle.std.proofs.Common.{ap, ◌∙◌, length, rules}
+use Rattle.std.proofs.Common.{rules}
 use Rattle.vortex_dtype.specs.Words.{ext_of}
 use Rattle.filter_encoding.proofs.NoValueLaws.{extension_long}
 use Rattle.filter_encoding.proofs.extensions.extension_length.Goals as goal

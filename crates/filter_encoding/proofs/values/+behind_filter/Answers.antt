@@ -1,9 +1,9 @@
 -- What is found in each kind of filter.
-use Rattle.std.proofs.Common.{◌≡◌, ℕ, ◌+◌, Result, length, ◌∙◌, ap, map, rules, subst, sym}
+use Rattle.std.proofs.Common.{◌≡◌, ℕ, ◌+◌, Ok, Result, length, ◌∙◌, ap, map, rules, subst, sym}
 use Rattle.vortex_cells.specs.Cells.{cell_of}
 use Rattle.vortex_filter.specs.Formula.{Formula, formula}
 use Rattle.vortex_filter.specs.declared.filter.Filter.{Filter}
-use Rattle.vortex_filter.proofs.Steps.{formula-And, formula-Between, formula-Compare, formula-Constant, formula-In, formula-IsNull, formula-Not, formula-Or, formula-StartsWith}
+use Rattle.vortex_filter.proofs.Steps.{formula-And, formula-Between, formula-Compare, formula-In, formula-IsNull, formula-Not, formula-Or, formula-StartsWith}
 use Rattle.vortex_value.specs.Size.{capped}
 use Rattle.filter_encoding.specs.Encoding.{FirstIn, HasValues, node_bytes}
 use Rattle.filter_encoding.specs.declared.values.NoValue.{NoValue}
@@ -30,7 +30,7 @@ returns-in-Compare t c =
     (comparison_passes c.in-Compare.column c.args.offset _ c.behind_literal.result c.in-Compare.operator (cell_of c.in-Compare.literal) c.saturating_add-in-Compare.ensures c.behind_literal.ensures)
 
 pub returns-in-IsNull : goal.returns-in-IsNull
-returns-in-IsNull t c = of_formula _ _ c.args.offset _ (ap formula c.in-IsNull.is ∙ formula-IsNull c.in-IsNull.column) (null_passes c.in-IsNull.column c.args.offset _ c.saturating_add-in-IsNull.ensures)
+returns-in-IsNull t c = of_formula _ _ c.args.offset (Ok c.saturating_add-in-IsNull.result) (ap formula c.in-IsNull.is ∙ formula-IsNull c.in-IsNull.column) (null_passes c.in-IsNull.column c.args.offset _ c.saturating_add-in-IsNull.ensures)
 
 pub returns-in-Between : goal.returns-in-Between
 returns-in-Between t c =
@@ -55,21 +55,21 @@ returns-in_err-middle-in-And t c =
 
 pub returns-in_ok-middle-in-And : goal.returns-in_ok-middle-in-And
 returns-in_ok-middle-in-And t c =
-    of_formula _ _ c.args.offset c.behind_filter.result (ap formula c.in-And.is ∙ formula-And c.in-And.left c.in-And.right)
-    (both_passed (formula c.in-And.left.value) (formula c.in-And.right.value) c.args.offset _ c.saturating_add-in-And.ensures c.in_ok-middle-in-And.middle c.behind_filter.result
-    (part_passed c.deref-in-And.result.now c.in-And.left.value _ _ (search rules) c.in_ok-middle-in-And.ensures) (part_passes c.deref-in-And-2.result.now c.in-And.right.value _ _ (search rules) c.behind_filter.ensures))
+    of_formula _ _ c.args.offset c.behind_filter-in-And.result (ap formula c.in-And.is ∙ formula-And c.in-And.left c.in-And.right)
+    (both_passed (formula c.in-And.left.value) (formula c.in-And.right.value) c.args.offset _ c.saturating_add-in-And.ensures c.in_ok-middle-in-And.middle c.behind_filter-in-And.result
+    (part_passed c.deref-in-And.result.now c.in-And.left.value _ _ (search rules) c.in_ok-middle-in-And.ensures) (part_passes c.deref-in-And-2.result.now c.in-And.right.value _ _ (search rules) c.behind_filter-in-And.ensures))
 
 pub returns-in_err-middle-in-Or : goal.returns-in_err-middle-in-Or
 returns-in_err-middle-in-Or t c =
-    of_formula _ _ c.args.offset c.from_residual-in-Or.result (ap formula c.in-Or.is ∙ formula-Or c.in-Or.one c.in-Or.other)
-    (either_refused (formula c.in-Or.one.value) (formula c.in-Or.other.value) c.args.offset _ c.saturating_add-in-Or.ensures c.from_residual-in-Or.result _ c.from_residual-in-Or.ensures
+    of_formula _ _ c.args.offset c.from_residual-in_err-middle-in-Or.result (ap formula c.in-Or.is ∙ formula-Or c.in-Or.one c.in-Or.other)
+    (either_refused (formula c.in-Or.one.value) (formula c.in-Or.other.value) c.args.offset _ c.saturating_add-in-Or.ensures c.from_residual-in_err-middle-in-Or.result _ c.from_residual-in_err-middle-in-Or.ensures
     (part_refused c.deref-in-Or.result.now c.in-Or.one.value _ _ (search rules) c.in_err-middle-in-Or.ensures))
 
 pub returns-in_ok-middle-in-Or : goal.returns-in_ok-middle-in-Or
 returns-in_ok-middle-in-Or t c =
-    of_formula _ _ c.args.offset c.behind_filter-in-Or.result (ap formula c.in-Or.is ∙ formula-Or c.in-Or.one c.in-Or.other)
-    (either_passed (formula c.in-Or.one.value) (formula c.in-Or.other.value) c.args.offset _ c.saturating_add-in-Or.ensures c.in_ok-middle-in-Or.middle c.behind_filter-in-Or.result
-    (part_passed c.deref-in-Or.result.now c.in-Or.one.value _ _ (search rules) c.in_ok-middle-in-Or.ensures) (part_passes c.deref-in-Or-2.result.now c.in-Or.other.value _ _ (search rules) c.behind_filter-in-Or.ensures))
+    of_formula _ _ c.args.offset c.behind_filter-in-Or-2.result (ap formula c.in-Or.is ∙ formula-Or c.in-Or.one c.in-Or.other)
+    (either_passed (formula c.in-Or.one.value) (formula c.in-Or.other.value) c.args.offset _ c.saturating_add-in-Or.ensures c.in_ok-middle-in-Or.middle c.behind_filter-in-Or-2.result
+    (part_passed c.deref-in-Or.result.now c.in-Or.one.value _ _ (search rules) c.in_ok-middle-in-Or.ensures) (part_passes c.deref-in-Or-2.result.now c.in-Or.other.value _ _ (search rules) c.behind_filter-in-Or-2.ensures))
 
 pub returns-in-Not : goal.returns-in-Not
 returns-in-Not t c =
