@@ -10,8 +10,8 @@ returns c =
     let old = c.args.zones.now.items in
     let zone = c.in-Some.zone.now in
     let at : slice_get old (length old - 1) ≡ Some zone =
-        subst (λ (x : List Zone). slice_get x (length x - 1) ≡ Some zone) c.deref.ensures.value (sym c.in-Some.ensures.value) in
+    subst (λ (x : List Zone). slice_get x (length x - 1) ≡ Some zone) c.deref.ensures.value (sym c.in-Some.ensures.value) in
     let some : 0 < length old = has_last old zone at in
     let long : 0 < vec_len c.args.zones.now = search rules in
     inl (reopened c.args.zone_rows old c.pop.new.self.items c.pop.result zone at c.if-zone-zone_rows.false c.pop.ensures.items
-        (some_listed c.pop.result (c.pop.ensures.variant.1 long)))
+    (some_listed c.pop.result (c.pop.ensures.variant.1 long)))
