@@ -261,9 +261,8 @@ fn statistics_of(
 
 /// The places of the rows, or of the zones, that are wanted.
 fn places<T>(on: &Filtered<T>, wanted: impl Fn(&[T]) -> bool) -> Vec<usize> {
-    let rows = on.items.chunks(on.width).enumerate();
-    rows.filter_map(|(place, row)| wanted(row).then_some(place))
-        .collect()
+    let row = |place| &on.items[place * on.width..][..on.width];
+    (0..on.count).filter(|&place| wanted(row(place))).collect()
 }
 
 fn of_keys<T>(outcome: KeyResult<T>, answer: impl FnOnce(T) -> Answer) -> Answer {

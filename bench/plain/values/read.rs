@@ -379,10 +379,11 @@ impl Reader<'_> {
     }
 }
 
-/// A filter, how many columns it has, and cells or statistics for each column of one row or zone, or of many.
+/// A filter, how many columns it has, how many rows or zones there are, and cells or statistics for each column of these.
 pub struct Filtered<T> {
     pub filter: Filter,
     pub width: usize,
+    pub count: usize,
     pub items: Vec<T>,
 }
 
@@ -507,6 +508,7 @@ impl<'a> Reader<'a> {
         Ok(Filtered {
             filter: sql::parse(text, &dtypes)?,
             width: dtypes.len(),
+            count: 1,
             items,
         })
     }
@@ -529,7 +531,7 @@ impl<'a> Reader<'a> {
         let dtypes = self.separated(Self::dtype)?;
         self.need(b';')?;
         let mut items = Vec::new();
-        self.separated(|reader| {
+        let rows = self.separated(|reader| {
             reader.need(b'[')?;
             for (place, dtype) in dtypes.iter().enumerate() {
                 if place > 0 {
@@ -541,7 +543,8 @@ impl<'a> Reader<'a> {
         })?;
         Ok(Filtered {
             filter: sql::parse(text, &dtypes)?,
-            width: dtypes.len().max(1),
+            width: dtypes.len(),
+            count: rows.len(),
             items,
         })
     }
