@@ -83,16 +83,20 @@ static uint32_t plain_fault(const struct doqallin_column *two, const uint8_t *ki
 
 static uint32_t of_mask(const struct doqallin_column *two, const uint8_t *kinds) {
     struct doqallin_fault where;
-    size_t rows = below(20) ? two[0].length : below(9);
+    size_t rows = below(20) ? two[0].length : below(9), length = rows / 8 + !!(rows % 8);
     uint32_t status = plain_fault(two, kinds, rows, &where);
     const uint8_t *filter = exactly(6, form, form_length);
     fresh();
+    if (length > BUFFER) {
+        CHECK(doqallin_filter_mask(filter, form_length, two, 2, rows, 256, buffer, BUFFER, &fault) == DOQALLIN_BUFFER_TOO_SMALL);
+        CHECK(fault.column == 77 && is_kept(0, 0));
+        return DOQALLIN_BUFFER_TOO_SMALL;
+    }
     if (status) {
         CHECK(doqallin_filter_mask(filter, form_length, two, 2, rows, 256, buffer, BUFFER, &fault) == status);
         CHECK(fault.column == where.column && fault.place == where.place && is_kept(0, 0));
         return status;
     }
-    size_t length = (rows + 7) / 8;
     memset(wanted, 0, length);
     for (size_t row = 0; row < rows; row++) wanted[row / 8] |= (truth_at(two, row) == YES) << row % 8;
     CHECK(doqallin_filter_mask(filter, form_length, two, 2, rows, 256, buffer, length, &fault) == DOQALLIN_GIVEN);
@@ -160,6 +164,6 @@ int main(int argc, char **argv) {
         offsets[0] = 0;
     }
     static const uint32_t all[] = {DOQALLIN_GIVEN, DOQALLIN_NOT_UTF8, DOQALLIN_BAD_OFFSETS, DOQALLIN_UNKNOWN_KIND, DOQALLIN_TOO_MANY_ROWS,
-                                   DOQALLIN_TOO_SHORT, DOQALLIN_BAD_BYTES, DOQALLIN_WRONG_LENGTH};
+                                   DOQALLIN_TOO_SHORT, DOQALLIN_BAD_BYTES, DOQALLIN_WRONG_LENGTH, DOQALLIN_BUFFER_TOO_SMALL};
     return ended(columns, seen, all, sizeof all / sizeof *all);
 }

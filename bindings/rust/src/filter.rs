@@ -231,7 +231,7 @@ impl Filter {
     /// Whether each of so many rows matches. The columns are those of the filter, in their order, and each has so many rows. If
     /// it was prepared for none, each row has the same answer.
     pub fn mask(&self, columns: &[Column<'_>], rows: usize) -> Result<Vec<bool>, FilterError> {
-        // A column that has other rows, or says more than its buffers have, is refused, whatever the buffer.
+        // Where a column has other rows, or says more than its buffers have, the buffer is too small, and the columns are refused.
         let least = columns
             .iter()
             .map(Column::rows_in_memory)
@@ -258,8 +258,34 @@ impl Filter {
                 .map(|row| buffer[row / 8] >> (row % 8) & 1 == 1)
                 .collect()),
             raw::UNKNOWN_KIND if fault.place == 1 => Err(FilterError::KindsDiffer(fault.column)),
+            raw::BUFFER_TOO_SMALL => Err(self.refusal(columns, rows)),
             other => Err(FilterError::Rows(RowsError::of(other, &fault))),
         }
+    }
+
+    /// Why columns are refused of which one has other rows, or says more than its buffers have: the first one decides.
+    fn refusal(&self, columns: &[Column<'_>], rows: usize) -> FilterError {
+        let wrong_length = FilterError::Rows(RowsError::WrongLength);
+        if columns.len() != self.width {
+            return wrong_length;
+        }
+        let without_rows =
+            |column: &Column<'_>| Column::from_buffers(column.kind(), &[], &[], 0, 0);
+        let of_kinds = self
+            .mask(&columns.iter().map(without_rows).collect::<Vec<_>>(), 0)
+            .err();
+        for (place, column) in columns.iter().enumerate() {
+            if let Err(fault) = Statistics::of(column, 0) {
+                return FilterError::Rows(RowsError::Column(place, fault));
+            }
+            if of_kinds == Some(FilterError::KindsDiffer(place)) {
+                return FilterError::KindsDiffer(place);
+            }
+            if column.len() != rows {
+                break;
+            }
+        }
+        wrong_length
     }
 
     /// The prepared filter in its stable encoding.
