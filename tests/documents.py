@@ -318,7 +318,7 @@ def of_tests():
         ("docs/WHICH_TOOL.md", "{} % of the work", by_index),
         ("docs/MEASUREMENTS.md", "the geometric mean of the {} ratios is {}", [count, mean]),
         ("docs/PROVED.md", "{} wrong bodies, each", [edits]),
-        ("docs/TESTING.md", "There are at most {}.", [edits]),
+        ("docs/TESTING.md", "There are {} of at most 70.", [edits]),
         ("docs/MEASUREMENTS.md", "edits (now {})", [edits]),
         ("docs/TESTING.md", "that {} random rows in each of {} columns", [constant("tests/keys", "ROWS"), columns]),
         ("docs/TESTING.md", "for {} random filters over {} tables", [tables * each, tables]),
