@@ -1,6 +1,6 @@
 -- Steps of refusals, up the type: of a whole by that of a part, if the others have values or have none.
 use Rattle.std.proofs.Common.{◌≡◌, ◌≢◌, ℕ, ◌<◌, true, false, true≢false, List, [], ◌∷◌, Option, Some as Present, refl, sym, subst, ◌∙◌}
-use Rattle.std.specs.Prelude.{Bool, Err, IsErr, Ok, Result}
+use Rattle.std.specs.Prelude.{Bool, Err, IfErr, IsErr, Ok, Result}
 use Rattle.std.specs.Result.{IsErrAnd}
 use Rattle.vortex_dtype.specs.TypeTree.{TypeTree, TypeTrees, extension_type, no_types, type_then, union_type, IsNullable, is_nullable}
 use Rattle.vortex_dtype.specs.declared.nullability.Nullability.TheVariants.{NonNullable}
@@ -28,6 +28,10 @@ passed One view (Err f) e old now h g = subst (λ d. Refuses One d old now) (sym
 pub puts-passed : (One : RawTree → Type 0) (r : Result Unit ValueError) (e : ValueError) (parts more : List (Option ScalarValue)) (old now : List ℕ) → IsErr r × IsErrAnd r (λ f. f ≡ e) → Refuses One e old now → PutsOne One r parts more old now
 puts-passed One (Ok u) e parts more old now h g = absurd (true≢false (sym h.0))
 puts-passed One (Err f) e parts more old now h g = subst (λ d. Refuses One d old now) (sym h.1) g
+
+pub told-on : {A : Type 0} (One : RawTree → Type 0) (r : Result A KeyDecodeError) (e : KeyDecodeError) (old now : List ℕ) → IsErr r × IsErrAnd r (λ f. f ≡ e) → Refuses One (Key e) old now → IfErr r (λ f. Refuses One (Key f) old now)
+told-on One (Ok x) e old now h g = tt
+told-on One (Err f) e old now h g = subst (λ d. Refuses One (Key d) old now) (sym h.1) g
 
 pub no-memory : (One : RawTree → Type 0) (e : KeyDecodeError) (old now : List ℕ) → e ≡ NoMemory → Refuses One (Key e) old now
 no-memory One e old now is = λ bad. absurd (memory_is_bad (sym is ∙ bad))

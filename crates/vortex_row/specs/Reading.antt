@@ -100,10 +100,14 @@ Reads IsOne view r old now = MatchResult r (λ x. HasRead IsOne (view x) old now
 abbrev pub ReadsInto : (RawTree → Type 0) → Result Unit KeyDecodeError → RawTree → List ℕ → List ℕ → Type 0
 ReadsInto IsOne r v old now = MatchResult r (λ u. HasRead IsOne v old now) (λ e. e ≡ Bad → IsStuck (IsKey IsOne) old now)
 
+-- a value of this kind was read and put to the others
+abbrev pub HasPut : (RawTree → Type 0) → List (Option ScalarValue) → List (Option ScalarValue) → List ℕ → List ℕ → Type 0
+HasPut IsOne parts more old now = (part : Option ScalarValue) × (more ≡ parts ++ part ∷ []) × HasRead IsOne (raw_of part) old now
+
 -- a value of this kind is read and put to the others, or memory is refused, or the bytes go on as no key of such a value
 abbrev pub Puts : (RawTree → Type 0) → Result Unit KeyDecodeError → List (Option ScalarValue) → List (Option ScalarValue) → List ℕ → List ℕ → Type 0
 Puts IsOne r parts more old now =
-    MatchResult r (λ u. (part : Option ScalarValue) × (more ≡ parts ++ part ∷ []) × HasRead IsOne (raw_of part) old now) (λ e. e ≡ Bad → IsStuck (IsKey IsOne) old now)
+    MatchResult r (λ u. HasPut IsOne parts more old now) (λ e. e ≡ Bad → IsStuck (IsKey IsOne) old now)
 
 -- the Boolean says whether this is so
 abbrev pub Tells : Bool → Type 0 → Type 0
@@ -121,7 +125,7 @@ ReadsOne IsOne view r old now = MatchResult r (λ x. HasRead IsOne (view x) old 
 
 -- a value of this kind is read and put to the others, or it is told why none is
 abbrev pub PutsOne : (RawTree → Type 0) → Result Unit ValueError → List (Option ScalarValue) → List (Option ScalarValue) → List ℕ → List ℕ → Type 0
-PutsOne IsOne r parts more old now = MatchResult r (λ u. (part : Option ScalarValue) × (more ≡ parts ++ part ∷ []) × HasRead IsOne (raw_of part) old now) (λ e. Refuses IsOne e old now)
+PutsOne IsOne r parts more old now = MatchResult r (λ u. HasPut IsOne parts more old now) (λ e. Refuses IsOne e old now)
 
 -- the refusal of bytes, of a kind that has values or has none
 abbrev pub bad_or_none : Bool → ValueError

@@ -7,7 +7,6 @@ ghost use Rattle.vortex_row.specs.Bytes.{inverted_again, inverted_byte};
 ghost use Rattle.vortex_row.specs.Steps.{inverted_word};
 
 use std::alloc::{AllocError, AllocFailed};
-use vortex_dtype::VortexError;
 
 /// Why nothing was read.
 #[derive(Clone, Copy)]

@@ -2,15 +2,16 @@
 //! cannot be. Of a type that has no value that is the first byte, so what must hold a value of such a
 //! type is refused where it begins.
 
-ghost use Rattle.std.specs.Prelude.{◌≡◌, ◌≢◌, ◌++◌, ◌∷◌, ◌<◌, [], ℕ, List, MatchOption, MatchResult, Some, false};
-ghost use Rattle.std.specs.Prelude.{true};
-ghost use Rattle.vortex_row.specs.Reading.{HasRead, IsChild, IsPresent, IsStuck, Puts, PutsOne, Reads};
-ghost use Rattle.vortex_row.specs.Reading.{ReadsInto, ReadsOne, entry_type, left};
+ghost use Rattle.std.specs.Prelude.{◌≡◌, ◌≢◌, ◌++◌, ◌∷◌, ◌<◌, [], ℕ, List, IfErr, IfOk, MatchOption, MatchResult, Some};
+ghost use Rattle.std.specs.Prelude.{false, true};
+ghost use Rattle.vortex_row.specs.Reading.{HasPut, HasRead, IsChild, IsPresent, IsStuck, Puts, PutsOne, Reads};
+ghost use Rattle.vortex_row.specs.Reading.{ReadsInto, ReadsOne, Refuses, entry_type, left};
 ghost use Rattle.vortex_row.specs.Words.{IsNullable, NonNullable, Valid, absent, as_type_trees, dtype_trees};
 ghost use Rattle.vortex_row.specs.Words.{fixed_size_list_type, integer_type, list_type, map_of, map_type, raw_of};
 ghost use Rattle.vortex_row.specs.Words.{raw_union, struct_type, type_of, type_with, union_tree, union_type};
 ghost use Rattle.vortex_row.specs.Words.{utf8_type, value_tree, variants_of};
 ghost use Rattle.vortex_row.specs.declared.reader.KeyDecodeError.TheVariants.{NoMemory};
+ghost use Rattle.vortex_row.specs.declared.reader.ValueError.TheVariants.{Key};
 
 use super::inhabited::{
     bad_or_none, has_child, has_entry, has_sized, has_value, have_values, of_nullable, of_optional,
@@ -148,8 +149,37 @@ fn push_value(
     }
 }
 
-/// Puts an optional value of the type to the others. Numbers are read in the loop that asks for
-/// them, without a call. They and texts are put there at once, which spares the moves of a result.
+/// Puts a null, a number or a text to the others, and answers `true`. `false` if the type's values are
+/// others, and no null comes: nothing is read then. Numbers are read in the loop that asks for them,
+/// without a call. They and texts are put there at once, which spares the moves of a result.
+#[inline(always)]
+fn push_leaf(
+    alloc: Global,
+    dtype: &DType,
+    reader: &mut Reader<'_>,
+    parts: &mut Vec<Option<ScalarValue>>,
+) -> Result<bool, KeyDecodeError>
+    ensures put { IfOk result (λ done. done ≡ true → HasPut (Valid (type_of dtype.now))
+        parts.old.items parts.new.items (left reader.old) (left reader.new)) }
+    ensures other { IfOk result (λ done. done ≡ false → (parts.new.items ≡ parts.old.items)
+        × (left reader.new ≡ left reader.old)
+        × (IsNullable (type_of dtype.now) → (bs : List ℕ) → left reader.old ≢ 1 ∷ bs)) }
+    ensures refused { IfErr result (λ e. Refuses (Valid (type_of dtype.now)) (Key e)
+        (left reader.old) (left reader.new)) }
+{
+    if takes_null(dtype, reader) {
+        push(None, parts)?;
+        return Ok(true);
+    }
+    match dtype {
+        DType::Primitive(ptype, _) => push_number(*ptype, reader, parts)?,
+        DType::Utf8(_) => push_text(alloc, reader, parts)?,
+        _ => return Ok(false),
+    }
+    Ok(true)
+}
+
+/// Puts an optional value of the type to the others.
 #[cycle(read)]
 #[inline(always)]
 fn push_next(
@@ -161,14 +191,10 @@ fn push_next(
     ensures { PutsOne (Valid (type_of dtype.now)) result
         parts.old.items parts.new.items (left reader.old) (left reader.new) }
 {
-    if takes_null(dtype, reader) {
-        return Ok(push(None, parts)?);
+    if push_leaf(alloc, dtype, reader, parts)? {
+        return Ok(());
     }
-    match dtype {
-        DType::Primitive(ptype, _) => Ok(push_number(*ptype, reader, parts)?),
-        DType::Utf8(_) => Ok(push_text(alloc, reader, parts)?),
-        _ => push_value(alloc, dtype, reader, parts),
-    }
+    push_value(alloc, dtype, reader, parts)
 }
 
 /// Puts an optional value of the type to the others, where none need come.
@@ -183,8 +209,11 @@ fn push_element(
     ensures { Puts (Valid (type_of dtype.now)) result
         parts.old.items parts.new.items (left reader.old) (left reader.new) }
 {
+    if push_leaf(alloc, dtype, reader, parts)? {
+        return Ok(());
+    }
     let start = *reader;
-    match push_next(alloc, dtype, reader, parts) {
+    match push_value(alloc, dtype, reader, parts) {
         Ok(()) => Ok(()),
         Err(error) => Err(of_optional(start, error, reader)),
     }

@@ -1,5 +1,5 @@
 -- The parts of each loop, and the keys of each kind of type.
-use Rattle.std.proofs.Common.{◌≡◌, ◌+◌, ◌-◌, suc, false, [], drop, Some as Present, None, refl, subst, sym, ap, ◌∙◌, arith}
+use Rattle.std.proofs.Common.{◌≡◌, ◌+◌, ◌-◌, suc, false, [], drop, Some as Present, refl, subst, sym, ap, ◌∙◌, arith}
 use Rattle.vortex_dtype.specs.Lemmas.TypeLevels.{type_of-Bool, type_of-Primitive, type_of-Utf8, type_of-Binary}
 use Rattle.vortex_dtype.specs.TypeOf.{as_type_trees, dtype_trees, map_of, type_of, variants_of}
 use Rattle.vortex_dtype.specs.TypeTree.{bool_type, integer_type, utf8_type, binary_type, list_type, fixed_size_list_type, map_type, struct_type, no_types, type_then}
@@ -9,7 +9,7 @@ use Rattle.vortex_value.specs.Values.RawOf.{raw_of, value_trees}
 use Rattle.vortex_row.specs.Reading.{AreSized, HasRead, IsPresent, Refuses, entry_type, left}
 use Rattle.vortex_row.proofs.InhabitedSteps.{bool-there, bytes-there, field-there, first-field, list-there, map-there, no_fields, none-told, number-there, sized-there, text-there}
 use Rattle.vortex_row.proofs.PartSteps.{SoFar, fixed-tuple, list-tuple, map-tuple, present-read, refused, some_sized, struct-tuple, takes-each, takes-entry, takes-field, takes-sized}
-use Rattle.vortex_row.proofs.RefusalSteps.{arm-one, arm-refused, child-refused, end-refused, extension-arm, head-refused, head-union_refused, id-refused, lacks-child, no-memory, kind-refused, one-field_told, optional-stuck, part-passed, part-refused, passed, puts-from, puts-passed}
+use Rattle.vortex_row.proofs.RefusalSteps.{arm-one, arm-refused, child-refused, end-refused, extension-arm, head-refused, head-union_refused, id-refused, lacks-child, no-memory, one-field_told, optional-stuck, part-passed, part-refused, passed, puts-passed}
 use Rattle.vortex_row.proofs.ValueSteps.{child-size, end-found, entry-stuck, extension-type, fields-from, fixed-type, head-missing, later-fields, list-type, map-type, more-sized, never-fields, never-sized, no-fields, none-each, none-entries, none-sized, part-stuck, pushed, read-shorter, so-far-next, so-far-start, some-field, struct-type, takes-field_at, union-type}
 use Rattle.vortex_row.proofs.decode.values.+read.Goals as goal
 
@@ -240,28 +240,6 @@ push_value-returns-in_err-push-in-Ok t c = puts-passed _ _ _ _ _ _ _ c.from_resi
 pub push_value-returns-in_ok-push-in-Ok : goal.push_value-returns-in_ok-push-in-Ok
 push_value-returns-in_ok-push-in-Ok t c = (Present c.in-Ok.value, c.in_ok-push-in-Ok.ensures, present-read _ _ _ _ _ refl c.in-Ok.ensures)
 
-pub push_next-returns-then-takes_null : goal.push_next-returns-then-takes_null
-push_next-returns-then-takes_null t c = (None, c.in_ok-push.ensures, c.takes_null.ensures.taken c.if-takes_null.true)
+pub push_next-returns-in_err-push_leaf : goal.push_next-returns-in_err-push_leaf
+push_next-returns-in_err-push_leaf t c = puts-passed _ _ _ _ _ _ _ c.from_residual.ensures c.in_err-push_leaf.ensures.refused
 
-pub push_next-returns-in_err-push_number-in-Primitive : goal.push_next-returns-in_err-push_number-in-Primitive
-push_next-returns-in_err-push_number-in-Primitive t c =
-    let e : type_of c.args.dtype.now ≡ integer_type c.in-Primitive.ptype c.in-Primitive.field-1 = ap type_of c.in-Primitive.is ∙ type_of-Primitive c.in-Primitive.ptype c.in-Primitive.field-1 in
-    puts-passed _ _ _ _ _ _ _ c.from_residual-in_err-push_number-in-Primitive.ensures (kind-refused (type_of c.args.dtype.now) (integer_type c.in-Primitive.ptype c.in-Primitive.field-1) _ _ _ _ e (number-there c.args.dtype.now c.in-Primitive.ptype c.in-Primitive.field-1 c.in-Primitive.is) (c.takes_null.ensures.unchanged c.if-takes_null.false) (c.takes_null.ensures.other c.if-takes_null.false) c.in_err-push_number-in-Primitive.ensures)
-
-pub push_next-returns-in_err-push_text-in-Utf8 : goal.push_next-returns-in_err-push_text-in-Utf8
-push_next-returns-in_err-push_text-in-Utf8 t c =
-    let e : type_of c.args.dtype.now ≡ utf8_type c.in-Utf8.field-0 = ap type_of c.in-Utf8.is ∙ type_of-Utf8 c.in-Utf8.field-0 in
-    puts-passed _ _ _ _ _ _ _ c.from_residual-in_err-push_text-in-Utf8.ensures (kind-refused (type_of c.args.dtype.now) (utf8_type c.in-Utf8.field-0) _ _ _ _ e (text-there c.args.dtype.now c.in-Utf8.field-0 c.in-Utf8.is) (c.takes_null.ensures.unchanged c.if-takes_null.false) (c.takes_null.ensures.other c.if-takes_null.false) c.in_err-push_text-in-Utf8.ensures)
-
-pub push_next-push_value-requires : goal.push_next-push_value-requires
-push_next-push_value-requires t c = (omega arith, λ n bs e. c.takes_null.ensures.other c.if-takes_null.false n bs (sym (c.takes_null.ensures.unchanged c.if-takes_null.false) ∙ e))
-
-pub push_next-returns-in_default : goal.push_next-returns-in_default
-push_next-returns-in_default t c =
-    puts-from (Valid (type_of c.args.dtype.now)) c.push_value.result _ _ _ _ _ (c.takes_null.ensures.unchanged c.if-takes_null.false) c.push_value.ensures
-
-pub push_element-returns-in-Ok : goal.push_element-returns-in-Ok
-push_element-returns-in-Ok t c = c.in-Ok.ensures
-
-pub push_element-returns-in-Err : goal.push_element-returns-in-Err
-push_element-returns-in-Err t c = λ bad. optional-stuck (Valid (type_of c.args.dtype.now)) c.in-Err.error c.of_optional.result _ _ _ c.in-Err.ensures c.of_optional.ensures bad
