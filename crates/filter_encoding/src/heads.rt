@@ -1,6 +1,6 @@
 //! The first byte of a filter's encoding: which kind of filter it is.
 
-ghost use Rattle.std.specs.Prelude.{◌≡◌, ◌≢◌, ◌∷◌, ℕ, List, MatchOption, MatchResult, false, true};
+ghost use Rattle.std.specs.Prelude.{◌≡◌, ◌≢◌, ◌∷◌, MatchOption, MatchResult, false, true};
 ghost use Rattle.filter_encoding.specs.declared.heads.Head.{Head};
 ghost use Rattle.filter_encoding.specs.Words.{IsNodeEncoding, IsStuck, MayBegin, head_byte, left, operator_byte};
 ghost use Rattle.filter_encoding.specs.Words.{truth_byte};

@@ -103,13 +103,8 @@ fn read_encoding(
 {
     read_version(reader)?;
     let columns = read_types(alloc, reader)?;
-    match read_node(alloc, depth, reader) {
-        Ok(filter) => Ok(PreparedFilter { columns, filter }),
-        Err(fault) => {
-            drop(columns);
-            Err(fault)
-        }
-    }
+    let filter = read_node(alloc, depth, reader)?;
+    Ok(PreparedFilter { columns, filter })
 }
 
 /// Takes the version.
@@ -192,13 +187,8 @@ fn read_parts(
         × AreValid (literals_of parts.1.value)) }
 {
     let left = read_part(alloc, depth, reader)?;
-    match read_part(alloc, depth, reader) {
-        Ok(right) => Ok((left, right)),
-        Err(fault) => {
-            drop(left);
-            Err(fault)
-        }
-    }
+    let right = read_part(alloc, depth, reader)?;
+    Ok((left, right))
 }
 
 // ---- tests
@@ -252,17 +242,12 @@ fn read_range(alloc: Global, reader: &mut Reader<'_>) -> Result<Filter, FilterDe
 {
     let column = read_place(reader)?;
     let lower = read_literal(alloc, reader)?;
-    match read_literal(alloc, reader) {
-        Ok(upper) => Ok(Filter::Between {
-            column,
-            lower,
-            upper,
-        }),
-        Err(fault) => {
-            drop(lower);
-            Err(fault)
-        }
-    }
+    let upper = read_literal(alloc, reader)?;
+    Ok(Filter::Between {
+        column,
+        lower,
+        upper,
+    })
 }
 
 /// Whether a cell begins with a literal, after its first byte.

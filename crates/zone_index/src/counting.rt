@@ -1,7 +1,7 @@
 //! Records are counted.
 
 ghost use Rattle.std.specs.Prelude.{◌≡◌, ◌≢◌, ◌<◌, ◌≤◌, ◌+◌, ◌-◌, ◌^◌, ℕ, List, IfErr, IfOk, IfSome, None, OnOk};
-ghost use Rattle.std.specs.Prelude.{length, count_by, drop, if◌then◌else◌, true};
+ghost use Rattle.std.specs.Prelude.{length, count_by, if◌then◌else◌, true};
 ghost use Rattle.csv_records.specs.Records.{records_of};
 ghost use Rattle.zone_index.specs.Answers.{AnswersCount};
 ghost use Rattle.zone_index.specs.Asking.{Asks};

@@ -1,6 +1,6 @@
 //! A line is read from a stream.
 
-ghost use Rattle.std.specs.Prelude.{◌≡◌, ◌≢◌, ◌-◌, ◌<◌, ◌≤◌, ◌+◌, ◌++◌, All, IfErr, IfOk, IfSome, Ok, OnOk, OnSome};
+ghost use Rattle.std.specs.Prelude.{◌≡◌, ◌≢◌, ◌-◌, ◌<◌, ◌≤◌, ◌+◌, ◌++◌, All, IfOk, IfSome, Ok, OnOk, OnSome};
 ghost use Rattle.std.specs.Prelude.{length, take, true, vec_len};
 ghost use Rattle.std.specs.Io.{IsEmptyOrEndsWith, StartsWith, StopsAt, appended_bytes};
 ghost use Rattle.std.specs.Io.BufRead.{DropsThrough, take_through};

@@ -87,7 +87,7 @@ pub struct IndexRequest<'a> {
 /// What is wanted of the rows that match.
 #[derive(Clone, Copy, PartialEq, Eq)]
 pub enum Wanted {
-    /// The rows as they stand in the file.
+    /// The rows as they are in the file.
     Rows,
     /// Each row after the number of its record.
     NumberedRows,
@@ -117,9 +117,7 @@ pub struct SearchRequest<'a> {
 /// What the words ask for, or what is wrong with them. The first word is the name of the program.
 pub fn asked_in<'a>(alloc: Global, words: &'a [String]) -> Result<Asked<'a>, Error> {
     let mut command = command(alloc)?;
-    let asked = asked_of(alloc, &mut command, words);
-    drop(command);
-    asked
+    asked_of(alloc, &mut command, words)
 }
 
 /// What the words ask for by a command line.
@@ -129,9 +127,7 @@ fn asked_of<'a>(
     words: &'a [String],
 ) -> Result<Asked<'a>, Error> {
     let matches = command.try_get_matches_from_mut(words)?;
-    let asked = request_in(alloc, &matches);
-    drop(matches);
-    match asked? {
+    match request_in(alloc, &matches)? {
         Some(asked) => Ok(asked),
         None => Err(command.error(ErrorKind::MissingSubcommand, "a command is missing")?),
     }
@@ -215,30 +211,16 @@ fn reading_in<'a>(alloc: Global, matches: &ArgMatches<'a>) -> Result<Reading<'a>
 
 /// The command line.
 fn command<'a>(alloc: Global) -> Result<Command<'a>, AllocError> {
-    let command = Command::new(alloc, "zone_map")
+    Command::new(alloc, "zone_map")
         .about(
             "Searches files of records by an index of their zones, and skips those that cannot match",
         )
         .after_help(ABOUT_STATUS)
-        .subcommand_required(true);
-    let command = with_subcommand(command, index_command(alloc))?;
-    let command = with_subcommand(command, find_command(alloc))?;
-    let command = with_subcommand(command, count_command(alloc))?;
-    with_subcommand(command, show_command(alloc))
-}
-
-/// The command line with one more command, if there is memory for that one.
-fn with_subcommand<'a>(
-    command: Command<'a>,
-    below: Result<Command<'a>, AllocError>,
-) -> Result<Command<'a>, AllocError> {
-    match below {
-        Ok(below) => command.subcommand(below),
-        Err(error) => {
-            drop(command);
-            Err(error)
-        }
-    }
+        .subcommand_required(true)
+        .subcommand(index_command(alloc)?)?
+        .subcommand(find_command(alloc)?)?
+        .subcommand(count_command(alloc)?)?
+        .subcommand(show_command(alloc)?)
 }
 
 /// The command that makes an index.
@@ -247,22 +229,16 @@ fn index_command<'a>(alloc: Global) -> Result<Command<'a>, AllocError> {
         .about("Write FILE.zones, the index of a file")
         .after_help(ABOUT_COLUMNS)
         .arg(file_arg(alloc, "The file of records"))?;
-    let command = add_reading(alloc, command)?
+    add_reading(alloc, command)?
         .arg(rows_arg(alloc))?
-        .arg(bytes_arg(alloc))?;
-    match append_arg(alloc) {
-        Ok(append) => command.arg(append),
-        Err(error) => {
-            drop(command);
-            Err(error)
-        }
-    }
+        .arg(bytes_arg(alloc))?
+        .arg(append_arg(alloc)?)
 }
 
 /// The command that writes rows.
 fn find_command<'a>(alloc: Global) -> Result<Command<'a>, AllocError> {
     let about =
-        "Write the rows that match, as they stand in the file; the status is 1 if there is none";
+        "Write the rows that match, as they are in the file; the status is 1 if there is none";
     let told =
         "Report on standard error how many zones were skipped, copied and searched, and how many bytes were read";
     search_command(alloc, "find", about, told)?.arg(flag(alloc, "numbers").help(

@@ -53,31 +53,9 @@ fn loaded_from<R: ReadAt>(
     file: &mut IndexFile<R>,
 ) -> Result<Loaded, ProgramError> {
     let (root, start) = root_from(alloc, name, file)?;
-    match setup_of(alloc, name, &root) {
-        Ok(setup) => loaded_with(alloc, name, file, root, start, setup),
-        Err(fault) => {
-            drop(root);
-            Err(fault)
-        }
-    }
-}
-
-/// The index of a root whose first block begins at this place, with all its statistics, and its setup.
-fn loaded_with<R: ReadAt>(
-    alloc: Global,
-    name: &str,
-    file: &mut IndexFile<R>,
-    root: Root,
-    start: u64,
-    setup: Setup,
-) -> Result<Loaded, ProgramError> {
-    match index_from(alloc, name, file, root, start, &[]) {
-        Ok(index) => Ok(Loaded { index, setup }),
-        Err(fault) => {
-            drop(setup);
-            Err(fault)
-        }
-    }
+    let setup = setup_of(alloc, name, &root)?;
+    let index = index_from(alloc, name, file, root, start, &[])?;
+    Ok(Loaded { index, setup })
 }
 
 /// The root of the index that a file of this name is, and the place of its first block.
@@ -172,66 +150,15 @@ fn searched_from<R: ReadAt>(
     file: &mut IndexFile<R>,
 ) -> Result<Searched, ProgramError> {
     let (root, start) = root_from(alloc, name, file)?;
-    match sought_by(alloc, request, name, &root) {
-        Ok(sought) => searched_for(alloc, request, name, file, root, start, sought),
-        Err(fault) => {
-            drop(root);
-            Err(fault)
-        }
-    }
-}
-
-/// What a request seeks by an index with this root.
-fn sought_by(
-    alloc: Global,
-    request: &SearchRequest<'_>,
-    name: &str,
-    root: &Root,
-) -> Result<Sought, ProgramError> {
-    let setup = setup_of(alloc, name, root)?;
-    Sought::from_text(alloc, setup, request.filter)
-}
-
-/// What a request seeks, and the index of a root whose first block begins at this place.
-fn searched_for<R: ReadAt>(
-    alloc: Global,
-    request: &SearchRequest<'_>,
-    name: &str,
-    file: &mut IndexFile<R>,
-    root: Root,
-    start: u64,
-    sought: Sought,
-) -> Result<Searched, ProgramError> {
-    match wanted_index(alloc, request, name, file, root, start, &sought) {
-        Ok(index) => Ok(Searched {
-            index,
-            read: file.read,
-            sought,
-        }),
-        Err(fault) => {
-            drop(sought);
-            Err(fault)
-        }
-    }
-}
-
-/// The index of a root whose first block begins at this place, with the statistics that are wanted.
-fn wanted_index<R: ReadAt>(
-    alloc: Global,
-    request: &SearchRequest<'_>,
-    name: &str,
-    file: &mut IndexFile<R>,
-    root: Root,
-    start: u64,
-    sought: &Sought,
-) -> Result<Index, ProgramError> {
-    match columns_wanted(alloc, request, sought) {
-        Ok(wanted) => index_from(alloc, name, file, root, start, &wanted),
-        Err(error) => {
-            drop(root);
-            Err(ProgramError::from(error))
-        }
-    }
+    let setup = setup_of(alloc, name, &root)?;
+    let sought = Sought::from_text(alloc, setup, request.filter)?;
+    let wanted = columns_wanted(alloc, request, &sought)?;
+    let index = index_from(alloc, name, file, root, start, &wanted)?;
+    Ok(Searched {
+        index,
+        read: file.read,
+        sought,
+    })
 }
 
 /// Whether the statistics of each column are wanted: those of the columns that the filter names, and
@@ -260,28 +187,13 @@ pub struct Sought {
 impl Sought {
     /// The filter that a text is over the columns of a setup.
     pub fn from_text(alloc: Global, setup: Setup, text: &str) -> Result<Sought, ProgramError> {
-        match filter_in(alloc, &setup, text) {
-            Ok(filter) => Sought::of_filter(alloc, setup, filter),
-            Err(fault) => {
-                drop(setup);
-                Err(fault)
-            }
-        }
-    }
-
-    /// This filter over the columns of a setup.
-    fn of_filter(alloc: Global, setup: Setup, filter: Filter) -> Result<Sought, ProgramError> {
-        match schema_of(alloc, &setup) {
-            Ok(schema) => Ok(Sought {
-                setup,
-                schema,
-                filter,
-            }),
-            Err(fault) => {
-                drop((setup, filter));
-                Err(fault)
-            }
-        }
+        let filter = filter_in(alloc, &setup, text)?;
+        let schema = schema_of(alloc, &setup)?;
+        Ok(Sought {
+            setup,
+            schema,
+            filter,
+        })
     }
 
     /// The rows of a zone.

@@ -48,11 +48,7 @@ fn search_file(rt: &HostRuntime, request: &SearchRequest<'_>) -> Result<u64, Pro
         return search_whole(rt, request, Some(request.file), file);
     }
     match load(rt, request)? {
-        Some(searched) => {
-            let found = search_indexed(rt, request, &searched);
-            drop(searched);
-            found
-        }
+        Some(searched) => search_indexed(rt, request, &searched),
         None => {
             let file = open_file(rt, request.file)?;
             advise(rt, request.file);
@@ -93,9 +89,7 @@ fn search_indexed(
     let file = open_file(rt, request.file)?;
     let before = stamp_of(rt.alloc(), request.file, &file)?;
     let mut reader = with_log(rt.alloc(), file);
-    let found = search_logged(rt, request, searched, before, &mut reader);
-    drop(reader);
-    found
+    search_logged(rt, request, searched, before, &mut reader)
 }
 
 /// Searches a file by its index, which was so before, and tells on demand what was done.

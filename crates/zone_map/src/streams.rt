@@ -101,14 +101,8 @@ fn sought_in(
                 return Err(fault);
             }
             match sought_in_lines(rt.alloc(), request.filter) {
-                Ok(sought) => {
-                    drop(fault);
-                    Ok(sought)
-                }
-                Err(other) => {
-                    drop(other);
-                    Err(fault)
-                }
+                Ok(sought) => Ok(sought),
+                Err(_) => Err(fault),
             }
         }
     }
@@ -165,11 +159,6 @@ pub fn flushed<T: Drop>(
     done: Result<T, SearchError>,
     flush: Result<(), SearchError>,
 ) -> Result<T, SearchError> {
-    match flush {
-        Ok(()) => done,
-        Err(fault) => {
-            drop(done);
-            Err(fault)
-        }
-    }
+    flush?;
+    done
 }

@@ -35,8 +35,8 @@ read_part-returns-in_err-filter-clause-read t c = passed_on node_bytes (IsNode c
 pub read_parts-returns-in_err-left-clause-read : goal.read_parts-returns-in_err-left-clause-read
 read_parts-returns-in_err-left-clause-read t c = parts_passed_on c.args.depth _ _ _ _ c.from_residual.ensures (λ bad. left_stuck c.args.depth _ _ (c.in_err-left.ensures.read bad))
 
-pub read_parts-returns-in-Err-clause-read : goal.read_parts-returns-in-Err-clause-read
-read_parts-returns-in-Err-clause-read t c = λ bad. right_stuck c.args.depth (formula c.in_ok-left.left.value) _ _ _ c.in_ok-left.ensures.read (c.in-Err.ensures.read bad)
+pub read_parts-returns-in_err-right-clause-read : goal.read_parts-returns-in_err-right-clause-read
+read_parts-returns-in_err-right-clause-read t c = parts_passed_on c.args.depth _ _ _ _ c.from_residual-in_err-right.ensures (λ bad. right_stuck c.args.depth (formula c.in_ok-left.left.value) _ _ _ c.in_ok-left.ensures.read (c.in_err-right.ensures.read bad))
 
 pub read_node-returns-in_err-left-in-And-clause-read : goal.read_node-returns-in_err-left-in-And-clause-read
 read_node-returns-in_err-left-in-And-clause-read t c =

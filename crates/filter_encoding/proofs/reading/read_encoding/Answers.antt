@@ -11,8 +11,8 @@ returns-in_err-read_version-clause-read c = refused_on c.args.depth _ _ _ _ c.fr
 pub returns-in_err-columns-clause-read : goal.returns-in_err-columns-clause-read
 returns-in_err-columns-clause-read c = refused_on c.args.depth _ _ _ _ c.from_residual-in_err-columns.ensures (λ bad. columns_stuck c.args.depth _ _ _ c.in_ok-read_version.ensures (c.in_err-columns.ensures bad))
 
-pub returns-in-Ok-clause-read : goal.returns-in-Ok-clause-read
-returns-in-Ok-clause-read c = encoding_read c.args.depth (map type_of c.in_ok-columns.columns.items) (formula c.in-Ok.filter) _ _ _ _ c.in_ok-read_version.ensures c.in_ok-columns.ensures c.in-Ok.ensures.read
+pub returns-in_err-filter-clause-read : goal.returns-in_err-filter-clause-read
+returns-in_err-filter-clause-read c = refused_on c.args.depth _ _ _ _ c.from_residual-in_err-filter.ensures (λ bad. filter_stuck c.args.depth (map type_of c.in_ok-columns.columns.items) _ _ _ _ c.in_ok-read_version.ensures c.in_ok-columns.ensures (c.in_err-filter.ensures.read bad))
 
-pub returns-in-Err-clause-read : goal.returns-in-Err-clause-read
-returns-in-Err-clause-read c = λ bad. filter_stuck c.args.depth (map type_of c.in_ok-columns.columns.items) _ _ _ _ c.in_ok-read_version.ensures c.in_ok-columns.ensures (c.in-Err.ensures.read bad)
+pub returns-clause-read : goal.returns-clause-read
+returns-clause-read c = encoding_read c.args.depth (map type_of c.in_ok-columns.columns.items) (formula c.in_ok-filter.filter) _ _ _ _ c.in_ok-read_version.ensures c.in_ok-columns.ensures c.in_ok-filter.ensures.read

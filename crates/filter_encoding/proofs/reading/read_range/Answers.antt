@@ -13,8 +13,8 @@ returns-in_err-column-clause-read c = λ n. passed_on node_bytes (IsNode n) form
 pub returns-in_err-lower-clause-read : goal.returns-in_err-lower-clause-read
 returns-in_err-lower-clause-read c = λ n. passed_on node_bytes (IsNode n) formula _ _ _ _ c.from_residual-in_err-lower.ensures (λ bad. range_lower_stuck n c.in_ok-column.column _ _ _ c.in_ok-column.ensures (c.in_err-lower.ensures.read bad))
 
-pub returns-in-Err-clause-read : goal.returns-in-Err-clause-read
-returns-in-Err-clause-read c = λ n bad. range_upper_stuck n c.in_ok-column.column (cell_of c.in_ok-lower.lower) _ _ _ _ c.in_ok-column.ensures c.in_ok-lower.ensures.read (c.in-Err.ensures.read bad)
+pub returns-in_err-upper-clause-read : goal.returns-in_err-upper-clause-read
+returns-in_err-upper-clause-read c = λ n. passed_on node_bytes (IsNode n) formula _ _ _ _ c.from_residual-in_err-upper.ensures (λ bad. range_upper_stuck n c.in_ok-column.column (cell_of c.in_ok-lower.lower) _ _ _ _ c.in_ok-column.ensures c.in_ok-lower.ensures.read (c.in_err-upper.ensures.read bad))
 
-pub returns-in-Ok-clause-read : goal.returns-in-Ok-clause-read
-returns-in-Ok-clause-read c = λ n. range_read n c.in_ok-column.column (cell_of c.in_ok-lower.lower) (cell_of c.in-Ok.upper) _ _ _ _ _ (formula-Between c.in_ok-column.column c.in_ok-lower.lower c.in-Ok.upper) c.in_ok-column.ensures c.in_ok-lower.ensures.read c.in-Ok.ensures.read
+pub returns-clause-read : goal.returns-clause-read
+returns-clause-read c = λ n. range_read n c.in_ok-column.column (cell_of c.in_ok-lower.lower) (cell_of c.in_ok-upper.upper) _ _ _ _ _ (formula-Between c.in_ok-column.column c.in_ok-lower.lower c.in_ok-upper.upper) c.in_ok-column.ensures c.in_ok-lower.ensures.read c.in_ok-upper.ensures.read
