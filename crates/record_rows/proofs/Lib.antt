@@ -4,5 +4,6 @@ mod CsvReads
 mod NullWords
 mod ObservedFields
 pub mod Reading
+mod Typed
 mod Walking
 mod Within

@@ -15,19 +15,14 @@ use Rattle.record_rows.specs.Rows.{IsTaken}
 use Rattle.record_rows.specs.declared.schema.ColumnType.{ColumnType}
 use Rattle.record_rows.specs.declared.schema.Kind.{Kind}
 use Rattle.record_rows.specs.declared.schema.Kind.TheVariants as kinds
-use Rattle.vortex_dtype.specs.TypeTree.{Same, TypeTree, integer_type, utf8_type}
+use Rattle.vortex_dtype.specs.TypeTree.{Same, TypeTree, utf8_type}
 use Rattle.vortex_dtype.specs.declared.nullability.Nullability.{Nullability}
 use Rattle.vortex_dtype.specs.declared.nullability.Nullability.TheVariants.{NonNullable, Nullable}
-use Rattle.vortex_dtype.specs.declared.ptype.PType.{PType}
-use Rattle.vortex_dtype.specs.declared.types.DType.{the_lemmas as dtype_lemmas}
-use Rattle.vortex_dtype.specs.declared.types.DType.TheVariants as dtypes
-use Rattle.vortex_pvalue.specs.Conversions.{IsNumber}
-use Rattle.vortex_pvalue.specs.Numbers.{InRange}
 use Rattle.vortex_pvalue.specs.Whole.{whole_of}
 use Rattle.vortex_pvalue.specs.declared.pvalues.PValue.{PValue}
 use Rattle.vortex_cells.specs.Cells.{Cell, cell_of, cell_order, is_null_cell, is_null_content, order_from_above}
 use Rattle.vortex_statistics.specs.Observing.{bound_after, bound_at, bound_with, is_below_some, observed}
-use Rattle.vortex_statistics.specs.Statistics.{AreComplete, AreRight, Known, KnownBound, may_be_value}
+use Rattle.vortex_statistics.specs.Statistics.{AreComplete, AreRight, Known, KnownBound, known_bound, may_be_value}
 use Rattle.vortex_statistics.specs.declared.column_statistics.Bound.{Bound}
 use Rattle.vortex_statistics.proofs.ObserveLaws.{observed_complete, observed_right}
 use Rattle.vortex_value.specs.Equality.{same_type}
@@ -39,59 +34,69 @@ use Rattle.vortex_value.specs.Values.Scalars.{IsMadeOf, IsValid, scalar_content,
 use Rattle.vortex_value.specs.declared.scalars.Scalar.{Scalar}
 use Rattle.vortex_value.specs.declared.values.ScalarValue.{the_lemmas as value_lemmas}
 use Rattle.vortex_value.specs.declared.values.ScalarValue.TheVariants as values
-use Rattle.record_rows.specs.Observed.{IsTakenAs, IsTextInside, Keeps, ObservesCell, ObservesField, ObservesWord, RaisesTo, TakesCell, TakesInteger, TakesWord, cell_in, raw_of_number}
+use Rattle.record_rows.specs.Observed.{IsTakenAs, IsTextInside, Keeps, ObservesCell, ObservesField, ObservesWord, RaisesTo, TakesCell, TakesWord, cell_in, number_cell}
 
 -- ---- orders
 
 same_true : (s t : TypeTree) → Same s t → same_type s t ≡ true
 same_true s t h = (same_type-Decides s t).1 h
 
-number_order : (p : PType) (n m : Nullability) (a z : ℤ) → cell_order (record { typed = integer_type p n; content = whole a }) (record { typed = integer_type p m; content = whole z }) ≡ Some (int_cmp a z)
-number_order p n m a z = rw (same_true (integer_type p n) (integer_type p m) refl) refl
+number_order : (t : TypeTree) (a z : ℤ) → cell_order (record { typed = t; content = whole a }) (record { typed = t; content = whole z }) ≡ Some (int_cmp a z)
+number_order t a z = rw (same_true t t refl) refl
 
 stays : (cmp : Cell → Cell → Option Ordering) (b : KnownBound) (x : Cell) → Keeps cmp b x → bound_after cmp (Some b) x ≡ Some b
 stays cmp b x (inl less) = rw less refl
 stays cmp b x (inr same) = rw same.0 (ap (λ (e : Bool). let k : KnownBound = record { value = b.value; is_exact = e } in Some k) (sym same.1))
 
+-- the order says that the bound is kept
+abbrev IsKeptBy : Option Ordering → Bool → Type 0
+IsKeptBy o exact = (o ≡ Some Less) ⊎ ((o ≡ Some Equal) × (exact ≡ true))
+
+keeps_by : (cmp : Cell → Cell → Option Ordering) (b : KnownBound) (x : Cell) (o : Option Ordering) → cmp b.value x ≡ o → IsKeptBy o b.is_exact → Keeps cmp b x
+keeps_by cmp b x o e (inl less) = inl (e ∙ less)
+keeps_by cmp b x o e (inr same) = inr (e ∙ same.0, same.1)
+
 -- ---- the upper bound after a number
 
-abbrev pub number_cell : PType → Nullability → PValue → Cell
-number_cell p n v = record { typed = integer_type p n; content = whole (whole_of v) }
+from_above : (t : TypeTree) (a v : PValue) → order_from_above (number_cell t a) (number_cell t v) ≡ Some (int_cmp (whole_of v) (whole_of a))
+from_above t a v = number_order t (whole_of v) (whole_of a)
 
-pub number_scalar : (p : PType) (n : Nullability) (v : PValue) (x : Scalar) → x.dtype ≡ dtypes.Primitive p n → x.value ≡ Some (values.Primitive v) → cell_of x ≡ number_cell p n v
-number_scalar p n v x typed is = rw (typed, is) (search (rules, dtype_lemmas, value_lemmas))
+at_number : (t : TypeTree) (a v : PValue) (old : KnownBound) (o : Ordering) → old.value ≡ number_cell t a → int_cmp (whole_of v) (whole_of a) ≡ o → bound_after order_from_above (Some old) (number_cell t v) ≡ bound_with (Some o) old (number_cell t v)
+at_number t a v old o is order_is =
+    let x : Cell = number_cell t v in
+    ap (λ (r : Option Ordering). bound_with r old x) (ap (λ (c : Cell). order_from_above c x) is ∙ from_above t a v ∙ ap (λ (r : Ordering). Some r) order_is)
 
-number_valid : (p : PType) (n : Nullability) (z : ℤ) (v : PValue) (x : Scalar) → IsNumber p z v → IsMadeOf (integer_type p n) (raw_of_number v) x → IsValid x
-number_valid p n z v x number made =
-    subst (λ (u : TypeTree). Valid u (scalar_raw x)) (sym made.typed)
-    (subst (Valid (integer_type p n)) (sym made.value) (number.0, subst (InRange p) (sym number.1) number.2))
-
-pub bound_valid : (p : PType) (n : Nullability) (z : ℤ) (v : PValue) (old new : Bound) → IsNumber p z v → (new ≡ old) ⊎ IsMadeOf (integer_type p n) (raw_of_number v) new.value → IsValid old.value → IsValid new.value
-bound_valid p n z v old new number (inl same) valid = subst (λ (b : Bound). IsValid b.value) (sym same) valid
-bound_valid p n z v old new number (inr made) valid = number_valid p n z v new.value number made
-
-from_above : (p : PType) (n : Nullability) (a v : PValue) → order_from_above (number_cell p n a) (number_cell p n v) ≡ Some (int_cmp (whole_of v) (whole_of a))
-from_above p n a v = number_order p n n (whole_of v) (whole_of a)
-
-at_number : (p : PType) (n : Nullability) (a v : PValue) (old : KnownBound) (o : Ordering) → old.value ≡ number_cell p n a → int_cmp (whole_of v) (whole_of a) ≡ o → bound_after order_from_above (Some old) (number_cell p n v) ≡ bound_with (Some o) old (number_cell p n v)
-at_number p n a v old o is order_is =
-    let x : Cell = number_cell p n v in
-    ap (λ (r : Option Ordering). bound_with r old x) (ap (λ (c : Cell). order_from_above c x) is ∙ from_above p n a v ∙ ap (λ (r : Ordering). Some r) order_is)
-
-raised_by : (p : PType) (n : Nullability) (a v : PValue) (o : Ordering) (old new : KnownBound) → old.value ≡ number_cell p n a → int_cmp (whole_of v) (whole_of a) ≡ o → o ≢ Less → new ≡ record { value = number_cell p n v; is_exact = true } → RaisesTo v p n old new
-raised_by p n a v Less old new is order_is above same = absurd (above refl)
-raised_by p n a v Equal old new is order_is above same =
+raised_by : (t : TypeTree) (a v : PValue) (o : Ordering) (old new : KnownBound) → old.value ≡ number_cell t a → int_cmp (whole_of v) (whole_of a) ≡ o → o ≢ Less → new ≡ record { value = number_cell t v; is_exact = true } → bound_after order_from_above (Some old) (number_cell t v) ≡ Some new
+raised_by t a v Less old new is order_is above same = absurd (above refl)
+raised_by t a v Equal old new is order_is above same =
     let z : whole_of v ≡ whole_of a = int_ranked (whole_of v) (whole_of a) Equal (sym order_is) in
-    let cell : old.value ≡ number_cell p n v = is ∙ ap (λ (w : ℤ). let c : Cell = record { typed = integer_type p n; content = whole w } in c) (sym z) in
-    at_number p n a v old Equal is order_is ∙ ap (λ (c : Cell). let b : KnownBound = record { value = c; is_exact = true } in Some b) cell ∙ ap (λ (b : KnownBound). Some b) (sym same)
-raised_by p n a v Greater old new is order_is above same =
-    let x : Cell = number_cell p n v in
-    let itself : bound_at x ≡ Some (record { value = x; is_exact = true }) = rw (number_order p n n (whole_of v) (whole_of v)) refl in
-    at_number p n a v old Greater is order_is ∙ itself ∙ ap (λ (b : KnownBound). Some b) (sym same)
+    let cell : old.value ≡ number_cell t v = is ∙ ap (λ (w : ℤ). let c : Cell = record { typed = t; content = whole w } in c) (sym z) in
+    at_number t a v old Equal is order_is ∙ ap (λ (c : Cell). let b : KnownBound = record { value = c; is_exact = true } in Some b) cell ∙ ap (λ (b : KnownBound). Some b) (sym same)
+raised_by t a v Greater old new is order_is above same =
+    let x : Cell = number_cell t v in
+    let itself : bound_at x ≡ Some (record { value = x; is_exact = true }) = rw (number_order t (whole_of v) (whole_of v)) refl in
+    at_number t a v old Greater is order_is ∙ itself ∙ ap (λ (b : KnownBound). Some b) (sym same)
 
-pub raised : (p : PType) (n : Nullability) (a v : PValue) (o : Option Ordering) (old new : KnownBound) → old.value ≡ number_cell p n a → o ≡ Some (int_cmp (whole_of v) (whole_of a)) → o ≢ Some Less → new ≡ record { value = number_cell p n v; is_exact = true } → RaisesTo v p n old new
-raised p n a v o old new is order_is past same =
-    raised_by p n a v (int_cmp (whole_of v) (whole_of a)) old new is refl (λ less. past (order_is ∙ ap (λ (r : Ordering). Some r) less)) same
+-- the bound is this number
+abbrev pub IsNumberBound : PValue → KnownBound → Type 0
+IsNumberBound a b = b.value ≡ number_cell b.value.typed a
+
+pub raised : (a v : PValue) (o : Option Ordering) (old new : KnownBound) → IsNumberBound a old → o ≡ Some (int_cmp (whole_of v) (whole_of a)) → o ≢ Some Less → new ≡ record { value = number_cell old.value.typed v; is_exact = true } → RaisesTo v old new
+raised a v o old new is order_is past same =
+    raised_by old.value.typed a v (int_cmp (whole_of v) (whole_of a)) old new is refl (λ less. past (order_is ∙ ap (λ (r : Ordering). Some r) less)) same
+
+pub not_raised : (a v : PValue) (o : Option Ordering) (old new : KnownBound) → IsNumberBound a old → o ≡ Some (int_cmp (whole_of v) (whole_of a)) → IsKeptBy o old.is_exact → new ≡ record { value = number_cell old.value.typed a; is_exact = old.is_exact } → RaisesTo v old new
+not_raised a v o old new is order_is kept same =
+    let x : Cell = number_cell old.value.typed v in
+    let compared : order_from_above old.value x ≡ o = ap (λ (c : Cell). order_from_above c x) is ∙ from_above old.value.typed a v ∙ sym order_is in
+    let unchanged : old ≡ new = ap (λ (c : Cell). let b : KnownBound = record { value = c; is_exact = old.is_exact } in b) is ∙ sym same in
+    stays order_from_above old x (keeps_by order_from_above old x o compared kept) ∙ ap (λ (b : KnownBound). Some b) unchanged
+
+pub number_scalar : (v : PValue) (x : Scalar) → x.value ≡ Some (values.Primitive v) → scalar_content x ≡ whole (whole_of v)
+number_scalar v x is = rw is (search (rules, value_lemmas))
+
+pub is_number : (v : PValue) (b : Bound) → scalar_content b.value ≡ whole (whole_of v) → IsNumberBound v (known_bound b)
+is_number v b held = ap (λ (c : Content). let x : Cell = record { typed = scalar_type b.value; content = c } in x) held
 
 -- ---- one cell more
 
@@ -146,8 +151,13 @@ word_observed reversed transitive reading column word s t l u v some none fits l
     let content : IsContent reading column (record { text = word; is_quoted = q }) h.0 = rw (some_field reading column.nullability word q some none) h.1 in
     (h.0, content, counted reversed transitive s t l u v (cell_in column h.0) fits lower_is upper_is (no_null column.kind word h.0 h.1) valued h.2 is)
 
-pub integer_taken : (k : PType) (column : ColumnType) (word : List ℕ) (l u v : KnownBound) → column.kind ≡ kinds.Integer k → TakesInteger k column.nullability word l u v → TakesWord column word l u v
-integer_taken k column word l u v kind h = (whole h.0, rw kind (h.0, h.1, refl), rw kind h.2)
+-- the number keeps the lower bound, and raises the upper one, which are of the column's type
+pub number_taken : (column : ColumnType) (word : List ℕ) (a v : PValue) (o : Option Ordering) (lower old new : KnownBound) → IsNumberBound a lower → lower.value.typed ≡ column_type column → old.value.typed ≡ column_type column → Means column.kind word (whole (whole_of v)) → o ≡ Some (int_cmp (whole_of a) (whole_of v)) → IsKeptBy o lower.is_exact → RaisesTo v old new → TakesWord column word lower old new
+number_taken column word a v o lower old new is low high means order_is kept raises =
+    let x : Cell = number_cell (column_type column) v in
+    let at : lower.value ≡ number_cell (column_type column) a = is ∙ ap (λ (t : TypeTree). number_cell t a) low in
+    let same : cell_order lower.value x ≡ o = ap (λ (c : Cell). cell_order c x) at ∙ number_order (column_type column) (whole_of a) (whole_of v) ∙ sym order_is in
+    (whole (whole_of v), means, (keeps_by cell_order lower x o same kept, subst (λ (t : TypeTree). bound_after order_from_above (Some old) (number_cell t v) ≡ Some new) high raises))
 
 pub text_taken : (column : ColumnType) (word : List ℕ) (l u : KnownBound) → column.kind ≡ kinds.Utf8 → IsTextInside word l u → TakesWord column word l u u
 text_taken column word l u kind h =

@@ -1,5 +1,6 @@
 pub mod Cells
 pub mod Examples
+pub mod Numbers
 pub mod Observed
 pub mod Readings
 pub mod Rows

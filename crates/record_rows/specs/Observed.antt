@@ -1,5 +1,5 @@
 -- The statistics of columns and one record more.
-use Rattle.std.specs.Prelude.{◌≡◌, ◌⊎◌, ◌+◌, ◌<◌, ◌≤◌, ◌^◌, ℕ, ℤ, List, [], ◌∷◌, Bool, false, true, Contains, Option, Some, IsUtf8, length, map, nat_lt}
+use Rattle.std.specs.Prelude.{◌≡◌, ◌⊎◌, ◌+◌, ◌<◌, ◌≤◌, ◌^◌, ℕ, List, [], ◌∷◌, Bool, false, true, Contains, Option, Some, IfSome, IsUtf8, length, map, nat_lt, slice_index_or}
 use Rattle.std.specs.List.{AllByRecursion}
 use Rattle.std.specs.declared.cmp.Ordering.{Ordering}
 use Rattle.std.specs.declared.cmp.Ordering.TheVariants.{Equal, Less}
@@ -7,24 +7,21 @@ use Rattle.csv_records.specs.Rows.{Field, field_rows, rows_of}
 use Rattle.record_rows.specs.Cells.{HasNoCell, IsContent, Means, column_type}
 use Rattle.record_rows.specs.Readings.{Reading}
 use Rattle.record_rows.specs.Rows.{fitted, refused_of}
-use Rattle.record_rows.specs.Words.{IsIntegerWord}
 use Rattle.record_rows.specs.declared.errors.ObserveError.{ObserveError}
 use Rattle.record_rows.specs.declared.errors.ObserveError.TheVariants.{Row, TooManyRows}
 use Rattle.record_rows.specs.declared.errors.RowReadError.{RowReadError}
 use Rattle.record_rows.specs.declared.observing.RowNotes.{RowNotes}
 use Rattle.record_rows.specs.declared.schema.ColumnType.{ColumnType}
-use Rattle.vortex_dtype.specs.TypeTree.{integer_type, utf8_type}
+use Rattle.vortex_dtype.specs.TypeTree.{TypeTree, utf8_type}
 use Rattle.vortex_dtype.specs.declared.nullability.Nullability.{Nullability}
 use Rattle.vortex_dtype.specs.declared.nullability.Nullability.TheVariants.{Nullable}
-use Rattle.vortex_dtype.specs.declared.ptype.PType.{PType}
-use Rattle.vortex_pvalue.specs.Whole.{ptype_of, whole_of}
+use Rattle.vortex_pvalue.specs.Whole.{whole_of}
 use Rattle.vortex_pvalue.specs.declared.pvalues.PValue.{PValue}
 use Rattle.vortex_cells.specs.Cells.{Cell, cell_order, order_from_above}
 use Rattle.vortex_statistics.specs.Observing.{IsCompleteWith, IsRightWith, bound_after, observed}
 use Rattle.vortex_statistics.specs.Statistics.{HasValidBounds, Known, KnownBound, known}
 use Rattle.vortex_statistics.specs.declared.column_statistics.ColumnStatistics.{ColumnStatistics}
 use Rattle.vortex_value.specs.Values.Content.{Content, null, text, whole}
-use Rattle.vortex_value.specs.Values.RawTree.{RawTree, raw_integer}
 
 -- ---- the cells of a record
 
@@ -88,6 +85,17 @@ AreObserved delimiter reading columns bytes old new notes = (fields : List Field
 abbrev pub IsObserved : ℕ → Reading → List ColumnType → List ℕ → List ColumnStatistics → List ColumnStatistics → RowNotes → Type 0
 IsObserved delimiter reading columns line old new notes = (fields : List Field) × (rows_of delimiter line ≡ fields ∷ []) × AreNoted reading columns fields old new notes
 
+-- ---- the types of bounds
+
+-- the bounds are of this type, if there are some
+pub record HasBoundsOf (t : TypeTree) (s : Known) : Type 0 where
+  pub lower : IfSome s.lower (λ b. b.value.typed ≡ t)
+  pub upper : IfSome s.upper (λ b. b.value.typed ≡ t)
+
+-- those of each column are of its type
+abbrev pub HaveTypes : List ColumnType → List ColumnStatistics → Type 0
+HaveTypes columns statistics = (k : ℕ) (c : ColumnType) (s : ColumnStatistics) → k < length columns → k < length statistics → HasBoundsOf (column_type (slice_index_or columns k c)) (known (slice_index_or statistics k s))
+
 -- ---- refusals
 
 -- the statistics count as many rows as 64 bits can
@@ -117,17 +125,13 @@ TakesCell lower old new x = Keeps cell_order lower x × (bound_after order_from_
 abbrev pub TakesWord : ColumnType → List ℕ → KnownBound → KnownBound → KnownBound → Type 0
 TakesWord column word lower old new = (c : Content) × Means column.kind word c × TakesCell lower old new (cell_in column c)
 
--- the same for a number of the type
-abbrev pub TakesInteger : PType → Nullability → List ℕ → KnownBound → KnownBound → KnownBound → Type 0
-TakesInteger ptype n word lower old new = (z : ℤ) × IsIntegerWord ptype word z × TakesCell lower old new (record { typed = integer_type ptype n; content = whole z })
+-- the cell of this type that a number stores
+abbrev pub number_cell : TypeTree → PValue → Cell
+number_cell t number = record { typed = t; content = whole (whole_of number) }
 
--- the raw value of a number
-abbrev pub raw_of_number : PValue → RawTree
-raw_of_number number = raw_integer (ptype_of number) (whole_of number)
-
--- new is the upper bound after a number
-abbrev pub RaisesTo : PValue → PType → Nullability → KnownBound → KnownBound → Type 0
-RaisesTo number ptype n old new = bound_after order_from_above (Some old) (record { typed = integer_type ptype n; content = whole (whole_of number) }) ≡ Some new
+-- new is the upper bound after a number of its type
+abbrev pub RaisesTo : PValue → KnownBound → KnownBound → Type 0
+RaisesTo number old new = bound_after order_from_above (Some old) (number_cell old.value.typed number) ≡ Some new
 
 -- the word is a string, and keeps both bounds
 abbrev pub IsTextInside : List ℕ → KnownBound → KnownBound → Type 0
@@ -136,10 +140,6 @@ IsTextInside word lower upper = IsUtf8 word × ((n : Nullability) → let x : Ce
 -- t is what is known of the cells of s and of that of the word, in quotes or not
 abbrev pub ObservesWord : Reading → ColumnType → List ℕ → Known → Known → Type 0
 ObservesWord reading column word s t = (is_quoted : Bool) → ObservesField reading column (record { text = word; is_quoted = is_quoted }) s t false
-
--- the bound is this number of the type
-abbrev pub IsNumberBound : PType → PValue → KnownBound → Type 0
-IsNumberBound ptype number b = (n : Nullability) × (b.value ≡ record { typed = integer_type ptype n; content = whole (whole_of number) })
 
 -- the bound is this string
 abbrev pub IsTextBound : List ℕ → KnownBound → Type 0

@@ -7,7 +7,8 @@ ghost use Rattle.vortex_dtype.specs.declared.nullability.Nullability.TheVariants
 ghost use Rattle.vortex_value.specs.Values.Content.{null};
 ghost use Rattle.vortex_value.specs.Values.Scalars.{IsValid, scalar_content, scalar_type};
 ghost use Rattle.record_rows.specs.Cells.{HasCell, HasMeaning, HasNoCell, HasNoMeaning, HasNoValue, IsBinaryCell};
-ghost use Rattle.record_rows.specs.Cells.{IsBytesCell, IsCell, IsIntegerCell, IsLogicalCell, IsTextCell, IsValueCell, column_type};
+ghost use Rattle.record_rows.specs.Cells.{IsBytesCell, IsCell, IsIntegerCell, IsLogicalCell, IsTextCell};
+ghost use Rattle.record_rows.specs.Cells.{IsValueCell, column_type};
 ghost use Rattle.record_rows.specs.Readings.{is_null_field};
 ghost use Rattle.record_rows.specs.Words.{IsIntegerWord};
 

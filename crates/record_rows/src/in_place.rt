@@ -2,30 +2,36 @@
 
 ghost use Rattle.std.specs.Prelude.{◌≡◌, ◌≢◌, ◌⊎◌, Some, IfSome, false, true};
 ghost use Rattle.std.specs.declared.cmp.Ordering.TheVariants.{Equal, Less};
-ghost use Rattle.record_rows.specs.Observed.{IsNumberBound, IsTextBound, IsTextInside, KeepsValid, ObservesWord};
-ghost use Rattle.record_rows.specs.Observed.{RaisesTo, TakesInteger, TakesWord, raw_of_number};
-ghost use Rattle.vortex_dtype.specs.TypeTree.{integer_type};
+ghost use Rattle.record_rows.specs.Cells.{column_type};
+ghost use Rattle.record_rows.specs.Numbers.{raw_of_number};
+ghost use Rattle.record_rows.specs.Observed.{HasBoundsOf, IsTextBound, IsTextInside, KeepsValid, ObservesWord};
+ghost use Rattle.record_rows.specs.Observed.{RaisesTo, TakesWord};
+ghost use Rattle.vortex_pvalue.specs.Whole.{whole_of};
 ghost use Rattle.vortex_statistics.specs.Statistics.{known, known_bound};
-ghost use Rattle.vortex_value.specs.Values.Scalars.{IsMadeOf, IsValid};
+ghost use Rattle.vortex_value.specs.Values.Content.{whole};
+ghost use Rattle.vortex_value.specs.Values.Scalars.{IsMadeOf, IsValid, scalar_content, scalar_type};
 
 use crate::ascii::is_text;
+use crate::numbers::stored_number;
 use crate::schema::{ColumnType, FieldReading, Kind};
-use crate::words::integer_of;
 use std::cmp::Ordering;
-use vortex_dtype::{DType, Nullability, PType};
+use vortex_dtype::DType;
 use vortex_pvalue::PValue;
 use vortex_statistics::{Bound, ColumnStatistics};
 use vortex_value::ScalarValue;
 use vortex_value::laws::{order_is_reversed, order_is_transitive};
 
-/// Observes the cell of a word without a scalar of it, and says whether it did. It tries so with a
-/// value within both bounds, and with an integer above them. Else nothing has changed.
+/// Observes the cell of a word without a scalar of it, and says whether it did. It tries so where the bounds
+/// are of the column's type, with a value within both, and with one above them that an integer stores. Else
+/// nothing has changed.
 pub(crate) fn observe_in_place(
     reading: &FieldReading,
     column: ColumnType,
     word: &[u8],
     statistics: &mut ColumnStatistics,
+    is_typed: bool,
 ) -> bool
+    requires { is_typed ≡ true → HasBoundsOf (column_type column) (known statistics.old) }
     ensures observed { result ≡ true →
         ObservesWord reading.now column word.now (known statistics.old) (known statistics.new) }
     ensures valid { KeepsValid statistics.old statistics.new }
@@ -33,6 +39,9 @@ pub(crate) fn observe_in_place(
 {
     order_is_reversed();
     order_is_transitive();
+    if !is_typed {
+        return false;
+    }
     if word.is_empty() || reading.has_null(word) {
         return false;
     }
@@ -58,54 +67,48 @@ pub(crate) fn observe_in_place(
 /// Takes a word into the upper bound, if it is a value of its column that does not change the lower
 /// one, and says whether it did.
 fn take_word(column: ColumnType, word: &[u8], lower: &Bound, upper: &mut Bound) -> bool
+    requires lower { scalar_type lower.now.value ≡ column_type column }
+    requires upper { scalar_type upper.old.value ≡ column_type column }
     ensures taken { result ≡ true → TakesWord column word.now
         (known_bound lower.now) (known_bound upper.old) (known_bound upper.new) }
     ensures valid { IsValid upper.old.value → IsValid upper.new.value }
     ensures unchanged { result ≡ false → upper.new ≡ upper.old }
 {
     match column.kind {
-        Kind::Integer(ptype) => take_integer(ptype, column.nullability, word, lower, upper),
+        Kind::Integer(_) | Kind::Logical(_) => take_number(column, word, lower, upper),
         Kind::Utf8 => is_text_inside(word, lower, upper),
         Kind::Binary | Kind::Bytes => false,
-        Kind::Logical(_) => false,
     }
 }
 
-/// Takes a word into the upper bound, if it is an integer that does not change the lower one. An index
-/// of a file where a number grows with each record takes a third fewer instructions so.
-fn take_integer(
-    ptype: PType,
-    nullability: Nullability,
-    word: &[u8],
-    lower: &Bound,
-    upper: &mut Bound,
-) -> bool
-    ensures taken { result ≡ true → TakesInteger ptype nullability word.now
+/// Takes a word into the upper bound, if an integer stores its value that does not change the lower one. An
+/// index of a file where a number grows with each record takes a third fewer instructions so.
+fn take_number(column: ColumnType, word: &[u8], lower: &Bound, upper: &mut Bound) -> bool
+    requires lower { scalar_type lower.now.value ≡ column_type column }
+    requires upper { scalar_type upper.old.value ≡ column_type column }
+    ensures taken { result ≡ true → TakesWord column word.now
         (known_bound lower.now) (known_bound upper.old) (known_bound upper.new) }
     ensures valid { IsValid upper.old.value → IsValid upper.new.value }
     ensures unchanged { result ≡ false → upper.new ≡ upper.old }
 {
-    let Some(least) = number_of(lower, ptype) else {
+    let Some(least) = number_of(lower) else {
         return false;
     };
-    let Some(number) = integer_of(word, ptype) else {
+    let Some(number) = stored_number(column.kind, word) else {
         return false;
     };
-    is_kept(least.partial_cmp(&number), lower.is_exact)
-        && raise_to(number, ptype, nullability, upper)
+    is_kept(least.partial_cmp(&number), lower.is_exact) && raise_to(number, upper)
 }
 
-/// Takes a number into the upper bound, if this is of its type, and says whether it is.
-fn raise_to(number: PValue, ptype: PType, nullability: Nullability, upper: &mut Bound) -> bool
-    ensures raised { result ≡ true →
-        RaisesTo number ptype nullability (known_bound upper.old) (known_bound upper.new) }
+/// Takes a number into the upper bound, if this is a number, and says whether it is.
+fn raise_to(number: PValue, upper: &mut Bound) -> bool
+    ensures raised { result ≡ true → RaisesTo number (known_bound upper.old) (known_bound upper.new) }
     ensures made { (upper.new ≡ upper.old)
-        ⊎ IsMadeOf (integer_type ptype nullability) (raw_of_number number) upper.new.value }
+        ⊎ IsMadeOf (scalar_type upper.old.value) (raw_of_number number) upper.new.value }
     ensures unchanged { result ≡ false → upper.new ≡ upper.old }
 {
-    match (&upper.value.dtype, &mut upper.value.value) {
-        (DType::Primitive(own, own_nullability), Some(ScalarValue::Primitive(greatest)))
-            if *own == ptype && *own_nullability == nullability => {
+    match &mut upper.value.value {
+        Some(ScalarValue::Primitive(greatest)) => {
             if !is_kept(number.partial_cmp(greatest), upper.is_exact) {
                 *greatest = number;
                 upper.is_exact = true;
@@ -113,6 +116,16 @@ fn raise_to(number: PValue, ptype: PType, nullability: Nullability, upper: &mut 
             true
         }
         _ => false,
+    }
+}
+
+/// The number that a bound is, if it is one.
+fn number_of(bound: &Bound) -> Option<&PValue>
+    ensures { IfSome result (λ number. scalar_content bound.now.value ≡ whole (whole_of number.now)) }
+{
+    match &bound.value.value {
+        Some(ScalarValue::Primitive(number)) => Some(number),
+        _ => None,
     }
 }
 
@@ -129,18 +142,6 @@ fn is_text_inside(word: &[u8], lower: &Bound, upper: &Bound) -> bool
     is_kept(Some(least.cmp(word)), lower.is_exact)
         && is_kept(Some(word.cmp(greatest)), upper.is_exact)
         && is_text(word)
-}
-
-/// The number that a bound is, if it is one of this type.
-fn number_of(bound: &Bound, ptype: PType) -> Option<&PValue>
-    ensures { IfSome result (λ number. IsNumberBound ptype number.now (known_bound bound.now)) }
-{
-    match (&bound.value.dtype, &bound.value.value) {
-        (DType::Primitive(own, _), Some(ScalarValue::Primitive(number))) if *own == ptype => {
-            Some(number)
-        }
-        _ => None,
-    }
 }
 
 /// The bytes of the string that a bound is, if it is one.

@@ -1,6 +1,7 @@
 //! Texts of many records: their records and rows, and where one may be cut.
 
-ghost use Rattle.std.specs.Prelude.{◌≡◌, ◌<◌, ◌≤◌, ◌⊎◌, ◌↔◌, ◌++◌, IfErr, IfOk, MatchBool, drop, length, map, take, true};
+ghost use Rattle.std.specs.Prelude.{◌≡◌, ◌<◌, ◌≤◌, ◌⊎◌, ◌↔◌, ◌++◌, IfErr, IfOk, MatchBool, drop};
+ghost use Rattle.std.specs.Prelude.{length, map, take, true};
 ghost use Rattle.std.specs.List.{concat};
 ghost use Rattle.csv.specs.Reading.{is_io, strip_bom};
 ghost use Rattle.csv.specs.Records.{fields_of};

@@ -1,5 +1,5 @@
 -- The rows of records are observed, one after another.
-use Rattle.std.proofs.Common.{◌≡◌, ◌<◌, ◌≤◌, ◌+◌, ◌^◌, ◌++◌, ℕ, zero, suc, List, [], ◌∷◌, Bool, true, false, if◌then◌else◌, Option, None, Some, Result, Ok, Err, MatchOption, is_none, is_some, unwrap_or, refl, sym, ap, ◌∙◌, subst, get_or, length, map, take, arith, nat_lt, append_assoc, append-nil, length-append}
+use Rattle.std.proofs.Common.{◌≡◌, ◌<◌, ◌≤◌, ◌+◌, ◌^◌, ◌++◌, ℕ, zero, suc, List, [], ◌∷◌, Bool, true, false, if◌then◌else◌, Option, None, Some, Result, Ok, Err, IfSome, MatchOption, Ordering, is_none, is_some, unwrap_or, refl, sym, ap, ◌∙◌, subst, get_or, length, map, take, arith, nat_lt, append_assoc, append-nil, length-append}
 use Rattle.std.specs.Int.{from_bool}
 use Rattle.std.specs.List.{AllByRecursion, filter_map, sum_by}
 use Rattle.std.specs.Prelude.{OnOk}
@@ -7,17 +7,19 @@ use Rattle.csv_records.specs.Records.{records_of}
 use Rattle.std.proofs.lemmas.List.{length-map, map-append}
 use Rattle.std.proofs.lemmas.List.Sums.{sum_by-append}
 use Rattle.csv_records.specs.Rows.{Field, rows_of}
+use Rattle.record_rows.specs.Cells.{column_type}
 use Rattle.record_rows.specs.Readings.{Reading, is_null_field}
 use Rattle.record_rows.specs.Rows.{fitted, refused_of}
 use Rattle.record_rows.specs.declared.observing.RowNotes.{RowNotes}
 use Rattle.record_rows.specs.declared.schema.ColumnType.{ColumnType}
 use Rattle.record_rows.specs.declared.schema.Schema.{Schema}
-use Rattle.record_rows.specs.Observed.{AreFieldsObserved, IsObserved, IsStep, IsTakenAs, SomeIsFull, Step, cell_in}
+use Rattle.record_rows.specs.Observed.{AreFieldsObserved, HaveTypes, IsObserved, IsStep, IsTakenAs, SomeIsFull, Step, cell_in}
 use Rattle.vortex_filter.specs.Formula.{cell_at}
 use Rattle.filter_pruning.specs.Pruning.{column}
-use Rattle.vortex_cells.specs.Cells.{Cell}
+use Rattle.vortex_cells.specs.Cells.{Cell, cell_order, order_from_above}
+use Rattle.vortex_dtype.specs.TypeTree.{TypeTree}
 use Rattle.statistics_bytes.specs.Encoding.{IsHeldKnown, encoding}
-use Rattle.vortex_statistics.specs.Statistics.{AreComplete, AreRight, known}
+use Rattle.vortex_statistics.specs.Statistics.{AreComplete, AreRight, IsBound, KnownBound, known}
 use Rattle.vortex_statistics.specs.Truncating.{AreTruncated}
 use Rattle.vortex_statistics.specs.declared.column_statistics.ColumnStatistics.{ColumnStatistics}
 use Rattle.vortex_value.specs.Values.Content.{Content}
@@ -233,6 +235,27 @@ none_from k (s ∷ ss) t h new = (h.0, none_from (suc k) ss t h.1 new)
 
 pub none_more : (ss : List ColumnStatistics) (t : ColumnStatistics) → AreAllComplete 0 [] ss → AreComplete (known t) [] → AreAllComplete 0 [] (ss ++ t ∷ [])
 none_more ss t h new = none_from 0 ss t h new
+
+-- ---- the types of their bounds
+
+no_bound : (t : TypeTree) (cmp : Cell → Cell → Option Ordering) (b : Option KnownBound) → IfSome b (λ b. IsBound cmp b []) → IfSome b (λ b. b.is_exact ≡ true) → IfSome b (λ b. b.value.typed ≡ t)
+no_bound t cmp None bounds exact = tt
+no_bound t cmp (Some b) bounds exact = let value = bounds.exact exact in absurd (omega (arith, value.1.cell.1))
+
+complete_at : (j : ℕ) (ss : List ColumnStatistics) (k : ℕ) (s : ColumnStatistics) → AreAllComplete j [] ss → k < length ss → AreComplete (known (get_or ss k s)) []
+complete_at j [] k s h less = absurd (omega (arith, less))
+complete_at j (r ∷ ss) zero s h less = h.0
+complete_at j (r ∷ ss) (suc k) s h less = complete_at (suc j) ss k s h.1 (omega (arith, less))
+
+-- statistics of no rows have no bounds
+pub none_typed : (columns : List ColumnType) (ss : List ColumnStatistics) → AreAllComplete 0 [] ss → HaveTypes columns ss
+none_typed columns ss h k c s below within =
+    let t : TypeTree = column_type (get_or columns k c) in
+    let none : AreComplete (known (get_or ss k s)) [] = complete_at 0 ss k s h within in
+    record {
+      lower = no_bound t cell_order (known (get_or ss k s)).lower none.right.lower none.exact.lower;
+      upper = no_bound t order_from_above (known (get_or ss k s)).upper none.right.upper none.exact.upper;
+    }
 
 -- ---- their encodings
 

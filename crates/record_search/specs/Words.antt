@@ -1,6 +1,6 @@
 -- The words of this crate's clauses, from one place.
 pub use Rattle.record_rows.specs.Cells.{column_type}
-pub use Rattle.record_rows.specs.Observed.{SomeIsFull}
+pub use Rattle.record_rows.specs.Observed.{HaveTypes, SomeIsFull}
 pub use Rattle.vortex_filter.specs.Formula.{formula}
 pub use Rattle.vortex_cells.specs.Cells.{Cell, cell_of}
 pub use Rattle.statistics_bytes.specs.Encoding.{IsHeldKnown, encoding}

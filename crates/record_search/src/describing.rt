@@ -5,15 +5,15 @@ ghost use Rattle.std.specs.Prelude.{true};
 ghost use Rattle.std.specs.Int.{to_le_bytes, w64};
 ghost use Rattle.csv_records.specs.Records.{records_of};
 ghost use Rattle.record_search.specs.Words.{AreAllComplete, AreDescribed, AreDescribedFully, AreRowsOf, Cell};
-ghost use Rattle.record_search.specs.Words.{DescribeRows, DescribeRowsFully, IfRecordRefused, IsHeldKnown, ObservesRow};
-ghost use Rattle.record_search.specs.Words.{PushesCut, RefusesRecord, SomeIsFull, TellsOffset, TellsOneOf, TellsRecord};
+ghost use Rattle.record_search.specs.Words.{DescribeRows, DescribeRowsFully, HaveTypes, IfRecordRefused, IsHeldKnown};
+ghost use Rattle.record_search.specs.Words.{ObservesRow, PushesCut, RefusesRecord, SomeIsFull, TellsOffset, TellsOneOf, TellsRecord};
 ghost use Rattle.record_search.specs.Words.{before_refused, bytes_encoding, encoding, has_row, is_refused, known};
 ghost use Rattle.record_search.specs.Words.{longer_under, nulls_under, row_under, rows_under, told};
 
 use crate::schema::{Schema, record_fault};
 use csv_records::{Delimiter, cut_record};
 use logical_types::laws::shapes_say_words;
-use record_rows::{ObserveError, observe_record};
+use record_rows::{ObserveError, observe_typed_record};
 use statistics_bytes::append_statistics;
 use std::alloc::{AllocError, Global};
 use vortex_statistics::ColumnStatistics;
@@ -145,17 +145,19 @@ fn observe_line(
 ) -> Result<(bool, u64, u64), RecordError>
     requires many { length statistics.old ≡ length schema.now.columns.items }
     requires few { ¬ (SomeIsFull statistics.old) }
+    requires typed { HaveTypes schema.now.columns.items statistics.old }
     ensures observed { IfOk result (λ seen. ObservesRow seen.0 (row_under schema.now line.now)
         statistics.old statistics.new) }
     ensures nulls { IfOk result (λ seen. seen.1 ≡ nulls_under schema.now line.now) }
     ensures longer { IfOk result (λ seen. seen.2 ≡ longer_under schema.now line.now) }
+    ensures typed { OnOk result (HaveTypes schema.now.columns.items statistics.new) }
     ensures length { length statistics.new ≡ length statistics.old }
     ensures passed { OnOk result (is_refused schema.now line.now ≡ false) }
     ensures refused { IfErr result (IfRecordRefused (TellsRecord (RefusesRecord schema.now) place line.now)) }
     ensures right { IfErr result (IfRecordRefused (λ _. is_refused schema.now line.now ≡ true)) }
 {
     shapes_say_words();
-    match observe_record(alloc, schema, line, buffer, statistics) {
+    match observe_typed_record(alloc, schema, line, buffer, statistics) {
         Ok(Some(notes)) => Ok((true, notes.refused as u64, u64::from(notes.is_longer))),
         Ok(None) => Ok((false, 0, 0)),
         Err(ObserveError::Row(error)) => Err(record_fault(place, error)),
