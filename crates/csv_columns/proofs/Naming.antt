@@ -2,14 +2,15 @@
 use Rattle.std.proofs.Common.{Bool, true, false, ◌≡◌, ◌≢◌, ◌<◌, ◌≤◌, ◌+◌, ◌⊎◌, ℕ, List, [], ◌∷◌, ◌++◌, length, get_or, take, subst, arith, ◌∙◌, ap, sym, refl, replicate, below_more}
 use Rattle.std.specs.Prelude.{All, AllPairs, Contains}
 use Rattle.std.specs.List.{sum_by}
-use Rattle.std.proofs.lemmas.List.{append_assoc, get_or-map, get_or-take, get_or_append_left, get_or_default, get_or_push, length-append, length-map, length-take-le, map-append, replicate_more}
+use Rattle.std.proofs.lemmas.List.{append_assoc, get_or-map, get_or-take, get_or_append_left, get_or_default, get_or_push, length-append, length-map, length-take-le, map-append, replicate_more, take-append-le}
 use Rattle.std.proofs.lemmas.List.Elements.{All-append, All-cons, All-from_recursion, All-push, All-replicate}
 use Rattle.std.proofs.lemmas.List.Quantifiers.{all_pairs_push}
 use Rattle.std.proofs.lemmas.List.Sums.{get_or-le-sum_by}
+use Rattle.std.proofs.Math.Seq.{take-append_seam}
 use Rattle.std.specs.Prelude.{codes, min, string_bytes}
 use Rattle.std.specs.declared.string.String.{String}
 use Rattle.std.specs.Global.{Global}
-use Rattle.csv_columns.specs.Names.{IsName, made_up, texts}
+use Rattle.csv_columns.specs.Names.{AreGivenOrMade, IsFirstFree, IsName, made_up, texts}
 use Rattle.csv_columns.proofs.Clear.{decimal_lacks}
 
 -- a name that is one of these is no longer than all of them
@@ -120,3 +121,27 @@ naming_next given old name new place naming long is valid other own kept =
     (subst (λ (k : ℕ). IsName (get_or (texts given) k [])) here is_name)
     (subst (λ (k : ℕ). ¬ (Contains (texts old) (get_or (texts given) k []))) here first)
     ∙ ap (λ (k : ℕ). get_or (texts given) k []) (sym here)))
+
+-- no name is there yet
+pub made_begun : (b : Bool) (given old : List (String Global)) → old ≡ [] → AreGivenOrMade b (texts given) (texts old)
+made_begun b given old none = subst (λ (l : List (String Global)). AreGivenOrMade b (texts given) (texts l)) (sym none) (λ k h. absurd (omega (arith, h)))
+
+-- one name more is given or made up as well
+made_push : (b : Bool) (given names : List (List ℕ)) (name : List ℕ) → AreGivenOrMade b given names
+    → (name ≡ get_or given (length names) []) ⊎ IsFirstFree (made_up b (length names)) given names name
+    → AreGivenOrMade b given (names ++ name ∷ [])
+made_push b given names name so_far one = λ k h.
+    let long : length (names ++ name ∷ []) ≡ length names + 1 = length-append names (name ∷ []) in
+    below_more (λ k. (get_or (names ++ name ∷ []) k [] ≡ get_or given k []) ⊎ IsFirstFree (made_up b k) given (take k (names ++ name ∷ [])) (get_or (names ++ name ∷ []) k [])) (length names)
+    (λ k h. rw (get_or_append_left names (name ∷ []) [] k h, take-append-le k names (name ∷ []) (omega (arith, h))) (so_far k h))
+    (rw (get_or_push names name [] (length names) refl, take-append_seam names (name ∷ [])) one) k (omega arith)
+
+-- the same of the strings at hand
+pub made_next : (b : Bool) (given old : List (String Global)) (name : String Global) (new : List (String Global)) (place : ℕ) → AreGivenOrMade b (texts given) (texts old) → length old ≡ place → new ≡ old ++ name ∷ []
+    → (string_bytes name ≡ get_or (texts given) place []) ⊎ IsFirstFree (made_up b place) (texts given) (texts old) (string_bytes name)
+    → AreGivenOrMade b (texts given) (texts new)
+made_next b given old name new place so_far long is one =
+    let here : length (texts old) ≡ place = length-map old string_bytes ∙ long in
+    subst (AreGivenOrMade b (texts given)) (sym (ap texts is ∙ map-append string_bytes old (name ∷ [])))
+    (made_push b (texts given) (texts old) (string_bytes name) so_far
+    (subst (λ (k : ℕ). (string_bytes name ≡ get_or (texts given) k []) ⊎ IsFirstFree (made_up b k) (texts given) (texts old) (string_bytes name)) (sym here) one))

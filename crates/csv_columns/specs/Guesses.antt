@@ -1,5 +1,5 @@
 -- Columns that are guessed from the first records.
-use Rattle.std.specs.Prelude.{◌≡◌, ◌≢◌, ◌<◌, ℕ, zero, suc, List, [], ◌∷◌, All, Bool, Contains, IsUtf8, Some, drop, length, map, max, nat_eq, nat_lt, slice_get, string_bytes, if◌then◌else◌}
+use Rattle.std.specs.Prelude.{◌≡◌, ◌≢◌, ◌<◌, ◌==◌, ℕ, zero, suc, List, [], ◌∷◌, All, Bool, Contains, IsUtf8, Some, drop, length, map, max, nat_eq, nat_lt, not, slice_get, string_bytes, if◌then◌else◌}
 use Rattle.std.specs.List.{flat_map, starts_with}
 use Rattle.std.specs.Str.{is_utf8}
 use Rattle.csv_records.specs.Records.{records_of}
@@ -117,6 +117,10 @@ column_names columns = map (λ (named : NamedColumn). string_bytes named.name) c
 -- as many columns as the first row or the header has fields, and one at least
 abbrev pub column_count : List (List Field) → List (List ℕ) → ℕ
 column_count rows given = max (max (width_of rows) (length given)) 1
+
+-- whether the byte divides lines into fields, as each does but the one that stands for no delimiter
+abbrev pub divides : ℕ → Bool
+divides byte = not (byte == 255)
 
 -- the header names each of these columns, and others
 abbrev pub NamesOthers : List (List ℕ) → List (List ℕ) → Type 0

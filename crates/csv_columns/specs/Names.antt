@@ -32,3 +32,7 @@ pub record IsFirstFree (first : List ℕ) (given names : List (List ℕ)) (name 
   pub least : (n : ℕ) → n < count → Contains given (first ++ replicate n 95) ⊎ Contains names (first ++ replicate n 95)
   pub new : ¬ (Contains given name)
   pub other : ¬ (Contains names name)
+
+-- each name is the one that is given at its place, or made up: the first free one of all that are given and of those before
+abbrev pub AreGivenOrMade : Bool → List (List ℕ) → List (List ℕ) → Type 0
+AreGivenOrMade are_divided given names = (k : ℕ) → k < length names → (slice_index_or names k [] ≡ slice_index_or given k []) ⊎ IsFirstFree (made_up are_divided k) given (take k names) (slice_index_or names k [])

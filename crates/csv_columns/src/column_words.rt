@@ -1,6 +1,6 @@
 //! Columns with names, and the words for their kinds.
 
-ghost use Rattle.std.specs.Prelude.{◌≡◌, ◌++◌, OnOk, Some, string_bytes};
+ghost use Rattle.std.specs.Prelude.{◌≡◌, ◌++◌, IfSome, OnOk, Some, string_bytes};
 ghost use Rattle.record_rows.specs.declared.schema.Kind.{Kind};
 ghost use Rattle.record_rows.specs.declared.schema.Kind.TheVariants as kinds;
 ghost use Rattle.csv_columns.specs.Setups.{IsPlain, kind_text, kind_word, mark_of};
@@ -64,9 +64,10 @@ fn integer_word(ptype: PType) -> &'static str
     }
 }
 
-/// The type that a kind says, with `?` behind it for one that takes nulls.
+/// The type that a kind says, with `?` behind it for one that takes nulls. `None` of any other text.
 pub fn column_of(text: &str) -> Option<ColumnType>
-    ensures { (column : ColumnType) → text.now ≡ kind_text column → result ≡ Some column }
+    ensures back { (column : ColumnType) → text.now ≡ kind_text column → result ≡ Some column }
+    ensures text { IfSome result (λ column. text.now ≡ kind_text column) }
 {
     let (word, nullability) = cut_mark(text);
     match kind_of(word) {
@@ -77,8 +78,9 @@ pub fn column_of(text: &str) -> Option<ColumnType>
 
 /// What stands before the question mark of a column that takes nulls, or all.
 fn cut_mark(text: &str) -> (&str, Nullability)
-    ensures { (kind : Kind) (n : Nullability) → text.now ≡ kind_word kind ++ mark_of n
+    ensures back { (kind : Kind) (n : Nullability) → text.now ≡ kind_word kind ++ mark_of n
         → (result.0.now ≡ kind_word kind) × (result.1 ≡ n) }
+    ensures text { text.now ≡ result.0.now ++ mark_of result.1 }
 {
     match text.strip_suffix('?') {
         Some(word) => (word, Nullability::Nullable),
@@ -88,7 +90,8 @@ fn cut_mark(text: &str) -> (&str, Nullability)
 
 /// The kind that a word says.
 fn kind_of(word: &str) -> Option<Kind>
-    ensures { (kind : Kind) → word.now ≡ kind_word kind → result ≡ Some kind }
+    ensures back { (kind : Kind) → word.now ≡ kind_word kind → result ≡ Some kind }
+    ensures word { IfSome result (λ kind. word.now ≡ kind_word kind) }
 {
     match logical_type_named(word.as_bytes()) {
         Some(logical) => Some(Kind::Logical(logical)),
@@ -98,7 +101,8 @@ fn kind_of(word: &str) -> Option<Kind>
 
 /// The kind that a word says, of those without a logical type.
 fn plain_kind_of(word: &str) -> Option<Kind>
-    ensures { (kind : Kind) → IsPlain kind → word.now ≡ kind_word kind → result ≡ Some kind }
+    ensures back { (kind : Kind) → IsPlain kind → word.now ≡ kind_word kind → result ≡ Some kind }
+    ensures word { IfSome result (λ kind. word.now ≡ kind_word kind) }
 {
     let kind = match word {
         "i8" => Kind::Integer(PType::I8),

@@ -7,11 +7,11 @@ ghost use Rattle.csv_records.specs.Rows.{Field};
 ghost use Rattle.record_rows.specs.Readings.{is_null_field};
 ghost use Rattle.vortex_dtype.specs.declared.nullability.Nullability.TheVariants.{Nullable};
 ghost use Rattle.csv_columns.specs.Guesses.{AreColumns, AreGuesses, HaveNumbers, IsColumn, NamesOthers, See};
-ghost use Rattle.csv_columns.specs.Guesses.{TakeFields, column_count, column_names, column_words, field_lists};
+ghost use Rattle.csv_columns.specs.Guesses.{TakeFields, column_count, column_names, column_words, divides, field_lists};
 ghost use Rattle.csv_columns.specs.Guesses.{field_of, fields_left, fields_of, header_names, left_of, without_mark};
 ghost use Rattle.csv_columns.specs.Guesses.{word_at, word_of};
 ghost use Rattle.csv_columns.specs.Kinds.{Sees};
-ghost use Rattle.csv_columns.specs.Names.{IsName, KeepsNames, texts};
+ghost use Rattle.csv_columns.specs.Names.{AreGivenOrMade, IsName, KeepsNames, texts};
 
 use crate::column_words::NamedColumn;
 use crate::kinds::Guess;
@@ -111,12 +111,16 @@ pub fn guess_columns(
     ensures distinct { IfOk result (λ guessed. AllPairs (λ a b. a ≢ b) (column_names guessed.columns.items)) }
     ensures kept { IfOk result (λ guessed.
         KeepsNames (header_names delimiter.byte header.now) (column_names guessed.columns.items)) }
+    // One that is not kept is called by its number, or `line`.
+    ensures made { IfOk result (λ guessed. AreGivenOrMade (divides delimiter.byte)
+        (header_names delimiter.byte header.now) (column_names guessed.columns.items)) }
     ensures columns { IfOk result (λ guessed.
         AreColumns (column_words reading.now (field_lists delimiter.byte records.now)) guessed.columns.items) }
     ensures take { IfOk result (λ guessed.
         TakeFields reading.now (field_lists delimiter.byte records.now) guessed.columns.items) }
     ensures numbers { IfOk result (λ guessed. HaveNumbers
         (column_words reading.now (field_lists delimiter.byte records.now)) guessed.have_numbers.items) }
+    ensures flags { IfOk result (λ guessed. length guessed.have_numbers.items ≡ length guessed.columns.items) }
 {
     let guesses = guesses_of(alloc, delimiter, reading, records)?;
     let given = names_in(alloc, delimiter, header)?;
@@ -132,6 +136,7 @@ fn columns_of(alloc: Global, guesses: &[Guess], names: Vec<String>) -> Result<Gu
         → AreColumns (λ k. if nat_lt k (length guesses.now) then words k else []) guessed.columns.items) }
     ensures numbers { IfOk result (λ guessed. (words : ℕ → List (List ℕ)) → See words guesses.now
         → HaveNumbers (λ k. if nat_lt k (length guesses.now) then words k else []) guessed.have_numbers.items) }
+    ensures flags { IfOk result (λ guessed. length guessed.have_numbers.items ≡ length guessed.columns.items) }
 {
     let mut columns = Vec::new(alloc);
     let mut have_numbers = Vec::new(alloc);

@@ -1,8 +1,8 @@
 //! The names of columns.
 
-ghost use Rattle.std.specs.Prelude.{◌≡◌, ◌≢◌, ◌<◌, ◌≤◌, ◌⊎◌, ◌++◌, ◌∷◌, ℕ, [], IfNone, IfOk, IfSome, MatchBool, All};
+ghost use Rattle.std.specs.Prelude.{◌≡◌, ◌≢◌, ◌<◌, ◌⊎◌, [], IfNone, IfOk, IfSome, MatchBool, All};
 ghost use Rattle.std.specs.Prelude.{AllPairs, Contains, length, slice_index_or, string_bytes};
-ghost use Rattle.csv_columns.specs.Names.{IsFirstFree, IsLine, IsName, KeepsNames, made_up, texts};
+ghost use Rattle.csv_columns.specs.Names.{AreGivenOrMade, IsFirstFree, IsLine, IsName, KeepsNames, made_up, texts};
 
 use std::alloc::{AllocError, Global};
 
@@ -50,6 +50,7 @@ pub(crate) fn names_for(
     ensures valid { IfOk result (λ names. All IsName (texts names.items)) }
     ensures distinct { IfOk result (λ names. AllPairs (λ a b. a ≢ b) (texts names.items)) }
     ensures kept { IfOk result (λ names. KeepsNames (texts given.now) (texts names.items)) }
+    ensures made { IfOk result (λ names. AreGivenOrMade are_divided (texts given.now) (texts names.items)) }
 {
     let mut names = Vec::new(alloc);
     for place in 0..count {
@@ -76,6 +77,8 @@ fn name_at(
         → IsName (slice_index_or (texts given.now) place [])
         → ¬ (Contains (texts names.now) (slice_index_or (texts given.now) place []))
         → string_bytes name ≡ slice_index_or (texts given.now) place []) }
+    ensures made { IfOk result (λ name. (string_bytes name ≡ slice_index_or (texts given.now) place [])
+        ⊎ IsFirstFree (made_up are_divided place) (texts given.now) (texts names.now) (string_bytes name)) }
 {
     match given_name(place, given, names) {
         Some(name) => {

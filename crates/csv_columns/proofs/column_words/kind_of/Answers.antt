@@ -6,7 +6,7 @@ use Rattle.csv_columns.specs.Setups.{kind_word}
 use Rattle.csv_columns.proofs.KindWords.{one_kind}
 use Rattle.csv_columns.proofs.column_words.kind_of.Goals as goal
 
-pub returns-in-Some : goal.returns-in-Some
-returns-in-Some c = λ kind is.
+pub returns-in-Some-clause-back : goal.returns-in-Some-clause-back
+returns-in-Some-clause-back c = λ kind is.
     let named : kind_word (kinds.Logical c.in-Some.logical) ≡ c.args.word.now = search rules in
     ap (λ (k : Kind). Some k) (one_kind (kinds.Logical c.in-Some.logical) kind (named ∙ is))

@@ -2,8 +2,8 @@
 use Rattle.std.proofs.Common.{◌≡◌, ◌∙◌, List, ap, length, max, rules, subst, sym, ℕ}
 use Rattle.std.proofs.lemmas.List.{length-map}
 use Rattle.std.specs.Prelude.{string_bytes}
-use Rattle.csv_columns.specs.Guesses.{column_count, field_lists, header_names, width_of}
-use Rattle.csv_columns.specs.Names.{KeepsNames, texts}
+use Rattle.csv_columns.specs.Guesses.{column_count, divides, field_lists, header_names, width_of}
+use Rattle.csv_columns.specs.Names.{AreGivenOrMade, KeepsNames, texts}
 use Rattle.csv_columns.proofs.Columns.{columns_guessed, name_bytes, numbers_guessed, ok_then, take_fields}
 use Rattle.csv_columns.proofs.guessing.guess_columns.Goals as goal
 
@@ -29,6 +29,14 @@ returns-clause-kept c =
     let given : texts c.deref.result.now ≡ header = ap texts c.deref.ensures.value ∙ c.in_ok-given.ensures in
     let kept : KeepsNames header (texts c.in_ok-names.names.items) = subst (λ (x : List (List ℕ)). KeepsNames x (texts c.in_ok-names.names.items)) given c.in_ok-names.ensures.kept in
     ok_then c.columns_of.result _ _ c.columns_of.ensures.names (λ guessed same. subst (KeepsNames header) (sym same) kept)
+
+pub returns-clause-made : goal.returns-clause-made
+returns-clause-made c =
+    let header = header_names c.args.delimiter.byte c.args.header.now in
+    let divided = divides c.args.delimiter.byte in
+    let given : texts c.deref.result.now ≡ header = ap texts c.deref.ensures.value ∙ c.in_ok-given.ensures in
+    let made : AreGivenOrMade divided header (texts c.in_ok-names.names.items) = subst (λ (x : List (List ℕ)). AreGivenOrMade divided x (texts c.in_ok-names.names.items)) given c.in_ok-names.ensures.made in
+    ok_then c.columns_of.result _ _ c.columns_of.ensures.names (λ guessed same. subst (AreGivenOrMade divided header) (sym same) made)
 
 pub returns-clause-columns : goal.returns-clause-columns
 returns-clause-columns c =

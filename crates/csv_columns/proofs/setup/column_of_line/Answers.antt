@@ -16,12 +16,12 @@ returns-in_err-word-clause-back c = λ column named is.
 pub returns-in_err-column-clause-back : goal.returns-in_err-column-clause-back
 returns-in_err-column-clause-back c = λ column named is.
     let parts = split_after 32 c.args.line.now (kind_text column.column) column.name (Some (c.in_ok-word.word, c.in_ok-word.name)) c.in_ok-word.ensures.cases (omega arith) is (λ i h. no_blank column i 0 h) in
-    absurd (none_is_not column.column (c.in_err-column.ensures column.column parts.0))
+    absurd (none_is_not column.column (c.in_err-column.ensures.back column.column parts.0))
 
 pub returns-then-is_name-clause-back : goal.returns-then-is_name-clause-back
 returns-then-is_name-clause-back c = λ column named is.
     let parts = split_after 32 c.args.line.now (kind_text column.column) column.name (Some (c.in_ok-word.word, c.in_ok-word.name)) c.in_ok-word.ensures.cases (omega arith) is (λ i h. no_blank column i 0 h) in
-    (some_same c.in_ok-column.column column.column (c.in_ok-column.ensures column.column parts.0), parts.1)
+    (some_same c.in_ok-column.column column.column (c.in_ok-column.ensures.back column.column parts.0), parts.1)
 
 pub returns-else-is_name-clause-back : goal.returns-else-is_name-clause-back
 returns-else-is_name-clause-back c = λ column named is.
