@@ -3,7 +3,9 @@ pub mod BitWrites
 pub mod BufferItems
 pub mod ByteOrder
 pub mod CellLists
+pub mod FormatSteps
 pub mod OffsetItems
 pub mod BufferSteps
+pub mod RangeSteps
 pub mod RowSteps
 pub mod SpanSteps

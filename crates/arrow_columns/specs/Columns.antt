@@ -1,11 +1,17 @@
 -- What a column of each kind has, and its cells.
-use Rattle.std.specs.Prelude.{◌≢◌, ℕ, ℤ, ◌+◌, ◌*◌, ◌^◌, ◌==◌, ◌<◌, ◌≤◌, if◌then◌else◌, Bool, List, [], ◌∷◌, length, Option, None, replicate}
+use Rattle.std.specs.Prelude.{◌≡◌, ◌≢◌, ℕ, ℤ, ◌+◌, ◌*◌, ◌^◌, ◌==◌, ◌<◌, ◌≤◌, if◌then◌else◌, Bool, List, [], ◌∷◌, length, Option, Some, None, replicate, slice_get}
 use Rattle.arrow_columns.specs.Bitmaps.{HasBits, bit_of}
 use Rattle.arrow_columns.specs.Cells.{cells_from}
-use Rattle.arrow_columns.specs.Integers.{integer_of, item_at, width_of}
+use Rattle.arrow_columns.specs.Integers.{item_at, number_of, width_of, width_of_item}
+use Rattle.arrow_columns.specs.Formats.{IsValueOf, items_of}
+use Rattle.arrow_columns.specs.Kinds.{kind_with}
+use Rattle.arrow_columns.specs.declared.formats.Format.{Format}
+use Rattle.arrow_columns.specs.declared.kinds.Kind.{Kind}
 use Rattle.arrow_columns.specs.Offsets.{AreRows, bytes_between, bytes_of_offset, offset_at}
 use Rattle.arrow_columns.specs.declared.columns.Column.{Column}
 use Rattle.arrow_columns.specs.declared.kinds.IntegerKind.{IntegerKind}
+use Rattle.arrow_columns.specs.declared.kinds.ItemKind.{ItemKind}
+use Rattle.arrow_columns.specs.declared.kinds.ItemKind.TheVariants.{Integer}
 use Rattle.arrow_columns.specs.declared.offset_width.OffsetWidth.{OffsetWidth}
 
 -- how many rows columns have: as many as the first one says
@@ -25,6 +31,10 @@ end_of column = column.offset + column.length
 abbrev pub HasRows : Column → Type 0
 HasRows column = (end_of column < 2 ^ 64) × HasBits column.validity.now (end_of column)
 
+-- its kind, if the codes are of one
+abbrev pub kind_in : Column → Option Kind
+kind_in column = kind_with column.kind column.precision column.scale
+
 -- integers: there is an item for each row
 abbrev pub HasIntegers : IntegerKind → Column → Type 0
 HasIntegers kind column = end_of column * width_of kind ≤ length column.values.now
@@ -32,12 +42,32 @@ HasIntegers kind column = end_of column * width_of kind ≤ length column.values
 abbrev pub IsIntegerColumn : IntegerKind → Column → Type 0
 IsIntegerColumn kind column = HasRows column × HasIntegers kind column
 
--- the cells of integers of so many bytes each, and of those as wide as the kind's
-abbrev pub cells_of_width : ℕ → IntegerKind → Column → List (Option ℤ)
-cells_of_width width kind column = cells_from column.validity.now (λ i. integer_of kind (item_at width column.values.now i)) column.offset column.length
+-- the cells of items of so many bytes each, and of those as wide as the kind's
+abbrev pub cells_of_width : ℕ → ItemKind → Column → List (Option ℤ)
+cells_of_width width kind column = cells_from column.validity.now (λ i. number_of kind (item_at width column.values.now i)) column.offset column.length
 
 abbrev pub integer_cells : IntegerKind → Column → List (Option ℤ)
-integer_cells kind column = cells_of_width (width_of kind) kind column
+integer_cells kind column = cells_of_width (width_of kind) (Integer kind) column
+
+-- items of any kind: there is one for each row
+abbrev pub HasItems : ItemKind → Column → Type 0
+HasItems kind column = end_of column * width_of_item kind ≤ length column.values.now
+
+abbrev pub IsItemColumn : ItemKind → Column → Type 0
+IsItemColumn kind column = HasRows column × HasItems kind column
+
+abbrev pub item_cells : ItemKind → Column → List (Option ℤ)
+item_cells kind column = cells_of_width (width_of_item kind) kind column
+
+-- values of a logical type: the number of each row is of a value
+abbrev pub logical_cells : Format → Column → List (Option ℤ)
+logical_cells format column = item_cells (items_of format) column
+
+abbrev pub IsValueRow : Format → Column → ℕ → Type 0
+IsValueRow format column row = (z : ℤ) → slice_get (logical_cells format column) row ≡ Some (Some z) → IsValueOf format z
+
+abbrev pub AreValuesBefore : Format → Column → ℕ → Type 0
+AreValuesBefore format column end = (row : ℕ) → row < end → IsValueRow format column row
 
 -- booleans: there is a bit for each row
 abbrev pub HasBooleans : Column → Type 0

@@ -1,16 +1,19 @@
 -- Why a column cannot be read.
 use Rattle.std.specs.Prelude.{◌≡◌, ℕ, ◌+◌, ◌^◌, ◌<◌, ◌≤◌, IsUtf8, Option, Some, None, true}
 use Rattle.arrow_columns.specs.Bitmaps.{is_valid, HasBits}
-use Rattle.arrow_columns.specs.Columns.{AreRowsBefore, HasBooleans, HasIntegers, HasOffsets, HasRows, IsByteColumn, end_of, offset_in, with_start}
-use Rattle.arrow_columns.specs.Kinds.{kind_at}
+use Rattle.arrow_columns.specs.Columns.{AreRowsBefore, AreValuesBefore, HasBooleans, HasItems, HasOffsets, HasRows, IsByteColumn, IsItemColumn, IsValueRow, end_of, kind_in, offset_in, with_start}
+use Rattle.arrow_columns.specs.Formats.{IsSound, items_of}
 use Rattle.arrow_columns.specs.Offsets.{IsRow, bytes_between}
 use Rattle.arrow_columns.specs.declared.columns.Column.{Column}
 use Rattle.arrow_columns.specs.declared.errors.Buffer.TheVariants.{Offsets, Validity, Values}
 use Rattle.arrow_columns.specs.declared.errors.ColumnError.{ColumnError}
-use Rattle.arrow_columns.specs.declared.errors.ColumnError.TheVariants.{BadOffsets, NotUtf8, TooManyRows, TooShort, UnknownKind}
+use Rattle.arrow_columns.specs.declared.errors.ColumnError.TheVariants.{BadOffsets, NotAValue, NotUtf8, TooManyRows, TooShort, UnknownKind}
+use Rattle.arrow_columns.specs.declared.formats.Format.{Format}
 use Rattle.arrow_columns.specs.declared.kinds.IntegerKind.{IntegerKind}
+use Rattle.arrow_columns.specs.declared.kinds.ItemKind.{ItemKind}
+use Rattle.arrow_columns.specs.declared.kinds.ItemKind.TheVariants as items
 use Rattle.arrow_columns.specs.declared.kinds.Kind.{Kind}
-use Rattle.arrow_columns.specs.declared.kinds.Kind.TheVariants.{Binary, Boolean, Integer, LargeBinary, LargeUtf8, Null, Utf8}
+use Rattle.arrow_columns.specs.declared.kinds.Kind.TheVariants.{Binary, Boolean, Integer, LargeBinary, LargeUtf8, Logical, Null, Utf8}
 use Rattle.arrow_columns.specs.declared.offset_width.OffsetWidth.{OffsetWidth}
 use Rattle.arrow_columns.specs.declared.offset_width.OffsetWidth.TheVariants.{Bits32, Bits64}
 
@@ -23,16 +26,28 @@ IsRowsError column (TooShort Values) = ⊥
 IsRowsError column (TooShort Offsets) = ⊥
 IsRowsError column (BadOffsets row) = ⊥
 IsRowsError column (NotUtf8 row) = ⊥
+IsRowsError column (NotAValue row) = ⊥
 
 -- what its values have, if the rest has no error
+abbrev pub IsItemError : ItemKind → Column → ColumnError → Type 0
+IsItemError kind column UnknownKind = ⊥
+IsItemError kind column TooManyRows = IsRowsError column TooManyRows
+IsItemError kind column (TooShort Validity) = IsRowsError column (TooShort Validity)
+IsItemError kind column (TooShort Values) = HasRows column × ¬ (HasItems kind column)
+IsItemError kind column (TooShort Offsets) = ⊥
+IsItemError kind column (BadOffsets row) = ⊥
+IsItemError kind column (NotUtf8 row) = ⊥
+IsItemError kind column (NotAValue row) = ⊥
+
 abbrev pub IsIntegerError : IntegerKind → Column → ColumnError → Type 0
-IsIntegerError kind column UnknownKind = ⊥
-IsIntegerError kind column TooManyRows = IsRowsError column TooManyRows
-IsIntegerError kind column (TooShort Validity) = IsRowsError column (TooShort Validity)
-IsIntegerError kind column (TooShort Values) = HasRows column × ¬ (HasIntegers kind column)
-IsIntegerError kind column (TooShort Offsets) = ⊥
-IsIntegerError kind column (BadOffsets row) = ⊥
-IsIntegerError kind column (NotUtf8 row) = ⊥
+IsIntegerError kind column fault = IsItemError (items.Integer kind) column fault
+
+-- of a logical type: the format is of none, or what its items have, or the first row that is no value
+abbrev pub IsLogicalError : Format → Column → ColumnError → Type 0
+IsLogicalError format column UnknownKind = ¬ (IsSound format)
+IsLogicalError format column (NotAValue row) =
+    IsItemColumn (items_of format) column × (row < column.length) × AreValuesBefore format column row × ¬ (IsValueRow format column row)
+IsLogicalError format column fault = IsItemError (items_of format) column fault
 
 abbrev pub IsBooleanError : Column → ColumnError → Type 0
 IsBooleanError column UnknownKind = ⊥
@@ -42,6 +57,7 @@ IsBooleanError column (TooShort Values) = HasRows column × ¬ (HasBooleans colu
 IsBooleanError column (TooShort Offsets) = ⊥
 IsBooleanError column (BadOffsets row) = ⊥
 IsBooleanError column (NotUtf8 row) = ⊥
+IsBooleanError column (NotAValue row) = ⊥
 
 -- the first row whose offsets are wrong
 abbrev pub IsBadRow : OffsetWidth → Column → ℕ → Type 0
@@ -57,6 +73,7 @@ IsByteError width column (TooShort Values) = ⊥
 IsByteError width column (TooShort Offsets) = HasRows column × ¬ (HasOffsets width column)
 IsByteError width column (BadOffsets row) = IsBadRow width column row
 IsByteError width column (NotUtf8 row) = ⊥
+IsByteError width column (NotAValue row) = ⊥
 
 -- the string of a row, if it is no null, is UTF-8
 abbrev pub IsTextRow : OffsetWidth → Column → ℕ → Type 0
@@ -74,6 +91,7 @@ IsStringError width column (TooShort Values) = ⊥
 IsStringError width column (TooShort Offsets) = HasRows column × ¬ (HasOffsets width column)
 IsStringError width column (BadOffsets row) = IsBadRow width column row
 IsStringError width column (NotUtf8 row) = IsByteColumn width column × (row < column.length) × AreTextRows width column row × ¬ (IsTextRow width column row)
+IsStringError width column (NotAValue row) = ⊥
 
 -- why a column of this kind, which begins with the buffers if it has no row, cannot be read
 abbrev pub IsErrorAt : Option Kind → Column → ColumnError → Type 0
@@ -85,6 +103,7 @@ IsErrorAt (Some LargeUtf8) column fault = IsStringError Bits64 column fault
 IsErrorAt (Some Binary) column fault = IsByteError Bits32 column fault
 IsErrorAt (Some LargeBinary) column fault = IsByteError Bits64 column fault
 IsErrorAt (Some Null) column fault = ⊥
+IsErrorAt (Some (Logical format)) column fault = IsLogicalError format column fault
 
 abbrev pub IsErrorOf : Column → ColumnError → Type 0
-IsErrorOf column fault = IsErrorAt (kind_at column.kind) (with_start column) fault
+IsErrorOf column fault = IsErrorAt (kind_in column) (with_start column) fault

@@ -68,5 +68,5 @@ strings_code = refl
 last_code : kind_at 13 ≡ Some Null
 last_code = refl
 
-no_code : kind_at 14 ≡ None
+no_code : kind_at 32 ≡ None
 no_code = refl

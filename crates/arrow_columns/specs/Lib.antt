@@ -5,9 +5,11 @@ pub mod Checked
 pub mod Columns
 pub mod Examples
 pub mod Errors
+pub mod Formats
 pub mod Integers
 pub mod Kinds
 pub mod Offsets
+pub mod Ranges
 pub mod Running
 pub mod Spans
 pub mod Statistics

@@ -6,13 +6,14 @@ ghost use Rattle.std.specs.Bool.{OnTrue};
 ghost use Rattle.std.specs.Option.{IfNone, IfSome};
 ghost use Rattle.arrow_columns.specs.Words.{AllFit, AreCastItems, AreCastTo, AreWritten, HasBits, HasRows};
 ghost use Rattle.arrow_columns.specs.Words.{IsFirstUnfit, IsFirstWithout, IsOfKind, cell_of_item, cells_of_width};
-ghost use Rattle.arrow_columns.specs.Words.{end_of, integer_cells, integer_of, is_valid, item_at, width_of};
+ghost use Rattle.arrow_columns.specs.Words.{end_of, integer_cells, integer_of, is_valid, item_at, number_of, width_of};
 ghost use Rattle.arrow_columns.specs.declared.casts.Extent.TheVariants.{Front, Nothing};
 
 use crate::bitmaps::is_row_valid;
 use crate::columns::Column;
 use crate::extremes::without_nulls;
 use crate::integers::Integer;
+use crate::items::Item;
 use crate::kinds::IntegerKind;
 use crate::tested_rows::IntegerRows;
 
@@ -48,12 +49,12 @@ enum Extent {
 }
 
 /// Whether the kind of U has the integers of all rows, null or not: their least and their greatest.
-fn all_fit<const N: usize, T: Integer<N>, const M: usize, U: Integer<M>>(span: Span<N>) -> bool
+fn all_fit<const N: usize, T: Item<N>, const M: usize, U: Integer<M>>(span: Span<N>) -> bool
     requires narrow { N ≤ 8 }
     requires range { span.from < span.end }
     requires items { span.end ≤ length span.items.now }
     ensures { OnTrue result ((k : ℕ) → k < span.entry.end → span.entry.from ≤ k
-        → IsOfKind U.kind (integer_of T.kind (slice_index_or span.entry.items.now k []))) }
+        → IsOfKind U.kind (number_of T.kind (slice_index_or span.entry.items.now k []))) }
 {
     let gathered = without_nulls::<N, T>(&[], span.items, span.from, span.end);
     let low = U::fits(gathered.least.whole());
@@ -62,7 +63,7 @@ fn all_fit<const N: usize, T: Integer<N>, const M: usize, U: Integer<M>>(span: S
 }
 
 /// The first row that is no null and has an integer that the kind of U does not have.
-fn first_without<const N: usize, T: Integer<N>, const M: usize, U: Integer<M>>(
+fn first_without<const N: usize, T: Item<N>, const M: usize, U: Integer<M>>(
     span: Span<N>,
 ) -> Option<usize>
     requires narrow { N ≤ 8 }
@@ -80,7 +81,7 @@ fn first_without<const N: usize, T: Integer<N>, const M: usize, U: Integer<M>>(
 }
 
 /// The same, row by row.
-fn find_without<const N: usize, T: Integer<N>, const M: usize, U: Integer<M>>(
+fn find_without<const N: usize, T: Item<N>, const M: usize, U: Integer<M>>(
     span: Span<N>,
 ) -> Option<usize>
     requires narrow { N ≤ 8 }
@@ -126,7 +127,7 @@ fn put<const M: usize>(buffer: &mut [u8], k: usize, bytes: [u8; M])
 
 /// Writes the integer of row i, or 0 if it is null.
 #[inline(always)]
-fn write_row<const N: usize, T: Integer<N>, const M: usize, U: Integer<M>>(
+fn write_row<const N: usize, T: Item<N>, const M: usize, U: Integer<M>>(
     span: Span<N>,
     i: usize,
     buffer: &mut [u8],
@@ -152,7 +153,7 @@ fn write_row<const N: usize, T: Integer<N>, const M: usize, U: Integer<M>>(
 }
 
 /// Writes the integers of the rows from a start on, and 0 for a null, row by row.
-fn write_by_rows<const N: usize, T: Integer<N>, const M: usize, U: Integer<M>>(
+fn write_by_rows<const N: usize, T: Item<N>, const M: usize, U: Integer<M>>(
     span: Span<N>,
     start: usize,
     buffer: &mut [u8],
@@ -178,7 +179,7 @@ fn write_by_rows<const N: usize, T: Integer<N>, const M: usize, U: Integer<M>>(
 }
 
 /// The same, with the rows of whole bytes of the bitmap.
-fn write_by_bytes<const N: usize, T: Integer<N>, const M: usize, U: Integer<M>>(
+fn write_by_bytes<const N: usize, T: Item<N>, const M: usize, U: Integer<M>>(
     span: Span<N>,
     first_byte: usize,
     end_byte: usize,
@@ -210,7 +211,7 @@ fn write_by_bytes<const N: usize, T: Integer<N>, const M: usize, U: Integer<M>>(
 
 /// Writes the integers of all rows, and 0 for a null. Where there is a bitmap, most go by its whole
 /// bytes.
-fn write_rows<const N: usize, T: Integer<N>, const M: usize, U: Integer<M>>(
+fn write_rows<const N: usize, T: Item<N>, const M: usize, U: Integer<M>>(
     span: Span<N>,
     buffer: &mut [u8],
 )
@@ -238,14 +239,14 @@ fn write_rows<const N: usize, T: Integer<N>, const M: usize, U: Integer<M>>(
 }
 
 /// Whether the kind of U has the integers of a block of rows.
-fn block_fits<const N: usize, T: Integer<N>, const M: usize, U: Integer<M>>(
+fn block_fits<const N: usize, T: Item<N>, const M: usize, U: Integer<M>>(
     span: Span<N>,
     start: usize,
 ) -> bool
     requires narrow { N ≤ 8 }
     requires items { start + BLOCK ≤ length span.items.now }
     ensures { OnTrue result ((j : ℕ) → j < BLOCK
-        → IsOfKind U.kind (integer_of T.kind (slice_index_or span.entry.items.now (start + j) []))) }
+        → IsOfKind U.kind (number_of T.kind (slice_index_or span.entry.items.now (start + j) []))) }
 {
     let items = span.items;
     let mut fits = true;
@@ -257,7 +258,7 @@ fn block_fits<const N: usize, T: Integer<N>, const M: usize, U: Integer<M>>(
 
 /// Writes the integers of a block of rows. All are read before the first is written, so that
 /// several are written at once.
-fn write_block<const N: usize, T: Integer<N>, const M: usize, U: Integer<M>>(
+fn write_block<const N: usize, T: Item<N>, const M: usize, U: Integer<M>>(
     span: Span<N>,
     start: usize,
     buffer: &mut [u8],
@@ -268,7 +269,7 @@ fn write_block<const N: usize, T: Integer<N>, const M: usize, U: Integer<M>>(
     requires items { start + BLOCK ≤ length span.items.now }
     requires buffer { (start + BLOCK - span.from) * M ≤ length buffer.old }
     requires fit { (j : ℕ) → j < BLOCK
-        → IsOfKind U.kind (integer_of T.kind (slice_index_or span.items.now (start + j) [])) }
+        → IsOfKind U.kind (number_of T.kind (slice_index_or span.items.now (start + j) [])) }
     requires written { AreWritten U.kind M (cell_of_item T.kind [] span.items.now) span.from start buffer.old }
     ensures written { AreWritten U.kind M (cell_of_item T.kind [] span.entry.items.now) span.entry.from
         (start + BLOCK) buffer.new }
@@ -287,7 +288,7 @@ fn write_block<const N: usize, T: Integer<N>, const M: usize, U: Integer<M>>(
 
 /// Writes the integers of the rows of a column without nulls block by block, as long as the kind of
 /// U has those of each block. Tells the first row that is not written.
-fn write_blocks<const N: usize, T: Integer<N>, const M: usize, U: Integer<M>>(
+fn write_blocks<const N: usize, T: Item<N>, const M: usize, U: Integer<M>>(
     span: Span<N>,
     buffer: &mut [u8],
 ) -> usize
@@ -317,7 +318,7 @@ fn write_blocks<const N: usize, T: Integer<N>, const M: usize, U: Integer<M>>(
 
 /// Writes the integers of the rows of a column without nulls before the first whose integer the
 /// kind of U lacks, in one pass. Tells which row that is.
-fn write_front_by_blocks<const N: usize, T: Integer<N>, const M: usize, U: Integer<M>>(
+fn write_front_by_blocks<const N: usize, T: Item<N>, const M: usize, U: Integer<M>>(
     span: Span<N>,
     buffer: &mut [u8],
 ) -> Option<usize>
@@ -347,7 +348,7 @@ fn write_front_by_blocks<const N: usize, T: Integer<N>, const M: usize, U: Integ
 
 /// Writes the integers of the rows before the first whose integer the kind of U lacks, and 0 for a
 /// null. Tells which row that is. Where there is a bitmap, all rows are tested first.
-fn write_front<const N: usize, T: Integer<N>, const M: usize, U: Integer<M>>(
+fn write_front<const N: usize, T: Item<N>, const M: usize, U: Integer<M>>(
     span: Span<N>,
     buffer: &mut [u8],
 ) -> Option<usize>
@@ -377,7 +378,7 @@ fn write_front<const N: usize, T: Integer<N>, const M: usize, U: Integer<M>>(
 
 /// Writes the integers of the rows, and 0 for a null. Tells the first row whose integer the kind of
 /// U lacks: if there is one, less is written.
-fn write_by<const N: usize, T: Integer<N>, const M: usize, U: Integer<M>>(
+fn write_by<const N: usize, T: Item<N>, const M: usize, U: Integer<M>>(
     extent: Extent,
     span: Span<N>,
     buffer: &mut [u8],
@@ -414,7 +415,7 @@ fn write_by<const N: usize, T: Integer<N>, const M: usize, U: Integer<M>>(
 }
 
 /// Casts a column from integers of N bytes to those of M bytes.
-fn cast_between<const N: usize, T: Integer<N>, const M: usize, U: Integer<M>>(
+fn cast_between<const N: usize, T: Item<N>, const M: usize, U: Integer<M>>(
     column: Column,
     extent: Extent,
     buffer: &mut [u8],
@@ -453,7 +454,7 @@ fn cast_between<const N: usize, T: Integer<N>, const M: usize, U: Integer<M>>(
 }
 
 /// Casts a column from integers of N bytes.
-fn cast_from<const N: usize, T: Integer<N>>(
+fn cast_from<const N: usize, T: Item<N>>(
     column: Column,
     to: IntegerKind,
     extent: Extent,

@@ -2,17 +2,22 @@
 
 ghost use Rattle.std.specs.Prelude.{◌≡◌, ◌<◌, ◌≤◌, IfErr, IfOk, MatchOption};
 ghost use Rattle.arrow_columns.specs.Words.{AreRowsOf, AreTextRows, HasRows, IsBooleanError, IsByteColumn};
-ghost use Rattle.arrow_columns.specs.Words.{IsByteError, IsErrorOf, IsIntegerError, IsRowsError, IsStringError};
-ghost use Rattle.arrow_columns.specs.Words.{IsTextRow, bytes_of_offset, end_of, width_of, with_start};
+ghost use Rattle.arrow_columns.specs.Words.{IsByteError, IsErrorOf, IsIntegerError, IsItemError, IsRowsError};
+ghost use Rattle.arrow_columns.specs.Words.{IsStringError, IsTextRow, bytes_of_offset, end_of, width_of};
+ghost use Rattle.arrow_columns.specs.Words.{AreValuesBefore, IsLogicalError, IsLogicalTypeOf, IsSound, IsValueRow};
+ghost use Rattle.arrow_columns.specs.Words.{items_of};
+ghost use Rattle.arrow_columns.specs.Words.{width_of_item, with_start};
 
 use crate::bitmaps::bitmap_length;
 use crate::byte_items::{first_bad, first_not_utf8};
 use crate::columns::Column;
 use crate::errors::{Buffer, ColumnError};
-use crate::kinds::{IntegerKind, Kind};
+use crate::formats::Format;
+use crate::kinds::{IntegerKind, ItemKind, Kind};
 use crate::offset_width::OffsetWidth;
 use crate::offsets::Offset;
-use crate::tested_rows::{BooleanRows, ByteRows, IntegerRows, Rows};
+use crate::tested_rows::{BooleanRows, ByteRows, IntegerRows, ItemRows, LogicalRows, Rows};
+use logical_types::{LogicalType, storages_of};
 
 impl IntegerKind {
     /// How many bytes an integer of the kind has.
@@ -24,6 +29,20 @@ impl IntegerKind {
             IntegerKind::U16 | IntegerKind::I16 => 2,
             IntegerKind::U32 | IntegerKind::I32 => 4,
             IntegerKind::U64 | IntegerKind::I64 => 8,
+        }
+    }
+}
+
+impl ItemKind {
+    /// How many bytes an item of the kind has.
+    pub fn width(self) -> usize
+        ensures { result ≡ width_of_item self }
+    {
+        match self {
+            ItemKind::Integer(kind) => kind.width(),
+            ItemKind::F32 => 4,
+            ItemKind::F64 => 8,
+            ItemKind::I128 => 16,
         }
     }
 }
@@ -52,6 +71,52 @@ fn integer_rows(kind: IntegerKind, column: Column) -> Result<IntegerRows, Column
         return Err(ColumnError::TooShort(Buffer::Values));
     }
     Ok(IntegerRows { kind, column })
+}
+
+/// The rows of a column of items of any kind.
+pub(crate) fn item_rows(kind: ItemKind, column: Column) -> Result<ItemRows, ColumnError>
+    ensures rows { IfOk result (λ rows. (rows.kind ≡ kind) × (rows.column ≡ column.entry)) }
+    ensures fault { IfErr result (λ fault. IsItemError kind column.entry fault) }
+{
+    let end = end_of_rows(column)?;
+    if column.values.len() / kind.width() < end {
+        return Err(ColumnError::TooShort(Buffer::Values));
+    }
+    Ok(ItemRows { kind, column })
+}
+
+/// The first row whose number is of no value. Each float is one.
+fn first_bad_value(format: Format, logical: LogicalType, rows: ItemRows) -> Option<usize>
+    requires logical { IsLogicalTypeOf format logical }
+    requires items { rows.kind ≡ items_of format }
+    ensures { MatchOption result (AreValuesBefore format rows.entry.column rows.entry.column.length)
+        (λ row. (row < rows.entry.column.length) × AreValuesBefore format rows.entry.column row
+        × ¬ (IsValueRow format rows.entry.column row)) }
+{
+    match format {
+        Format::Float32 | Format::Float64 => None,
+        _ => {
+            let (least, greatest) = storages_of(logical);
+            rows.first_outside(least, greatest)
+        }
+    }
+}
+
+/// The rows of a column of a logical type.
+fn logical_rows(format: Format, column: Column) -> Result<LogicalRows, ColumnError>
+    ensures rows { IfOk result (λ rows. (rows.format ≡ format) × (rows.column ≡ column.entry)) }
+    ensures values { IfOk result (λ _. IsSound format
+        × AreValuesBefore format column.entry column.entry.length) }
+    ensures fault { IfErr result (λ fault. IsLogicalError format column.entry fault) }
+{
+    let Some(logical) = format.logical_type() else {
+        return Err(ColumnError::UnknownKind);
+    };
+    let rows = item_rows(format.items(), column)?;
+    match first_bad_value(format, logical, rows) {
+        Some(row) => Err(ColumnError::NotAValue(row)),
+        None => Ok(LogicalRows { format, column }),
+    }
 }
 
 /// The rows of a column of booleans.
@@ -163,7 +228,7 @@ impl<'a> Column<'a> {
         ensures rows { IfOk result (λ rows. AreRowsOf self.entry rows) }
         ensures fault { IfErr result (λ fault. IsErrorOf self.entry fault) }
     {
-        let Some(kind) = Kind::from_code(self.kind) else {
+        let Some(kind) = Kind::with_code(self.kind, self.precision, self.scale) else {
             return Err(ColumnError::UnknownKind);
         };
         let column = self.with_start();
@@ -175,6 +240,7 @@ impl<'a> Column<'a> {
             Kind::Binary => Ok(Rows::Bytes(byte_rows(OffsetWidth::Bits32, column)?)),
             Kind::LargeBinary => Ok(Rows::Bytes(byte_rows(OffsetWidth::Bits64, column)?)),
             Kind::Null => Ok(Rows::Nulls(self.length)),
+            Kind::Logical(format) => Ok(Rows::Values(logical_rows(format, column)?)),
         }
     }
 }

@@ -8,8 +8,12 @@ ghost use Rattle.arrow_columns.specs.Columns.{rows_in};
 #[derive(Clone, Copy)]
 #[repr(C)]
 pub struct Column<'a> {
-    /// The code of its kind: see `Kind::from_code`.
+    /// The code of its kind: see `Kind::with_code`.
     pub kind: u8,
+    /// Of decimals: how many digits a number has at most. Else it is not read.
+    pub precision: u8,
+    /// Of decimals: how many of them stand behind the point. Else it is not read.
+    pub scale: u8,
     /// A bit for each row, 0 where it is null. Empty if no row is.
     pub validity: &'a [u8],
     /// The values: integers, bits, or the bytes of all rows one after another.

@@ -21,4 +21,6 @@ pub enum ColumnError {
     BadOffsets(usize),
     /// This row, the first such one, is no UTF-8.
     NotUtf8(usize),
+    /// The number of this row, the first such one, is of no value of the column's logical type.
+    NotAValue(usize),
 }

@@ -3,10 +3,10 @@
 ghost use Rattle.std.specs.Prelude.{[], ◌≡◌, ◌≢◌, ℕ, ◌<◌, ◌≤◌, ◌-◌, ◌*◌, false, if◌then◌else◌, length};
 ghost use Rattle.std.specs.Prelude.{slice_index_or, true};
 ghost use Rattle.arrow_columns.specs.Words.{AreGathered, AreStatisticsOf, HasBits, cell_of_item, cells_from};
-ghost use Rattle.arrow_columns.specs.Words.{integer_of, is_valid};
+ghost use Rattle.arrow_columns.specs.Words.{is_valid, number_of};
 
 use crate::bitmaps::{first_valid, is_set};
-use crate::integers::Integer;
+use crate::items::Item;
 use crate::statistics::{IntegerExtremes, IntegerStatistics};
 
 /// What is known of some rows, of which one at least is no null.
@@ -18,18 +18,18 @@ pub struct Gathered<T> {
 }
 
 /// The statistics of some rows.
-pub fn statistics_of_rows<const N: usize, T: Integer<N>>(
+pub fn statistics_of_rows<const N: usize, T: Item<N>>(
     validity: &[u8],
     items: &[[u8; N]],
     from: usize,
     end: usize,
 ) -> IntegerStatistics
-    requires narrow { N ≤ 8 }
+    requires narrow { N ≤ 16 }
     requires range { from ≤ end }
     requires items { end ≤ length items.now }
     requires bits { HasBits validity.now end }
     ensures { AreStatisticsOf (cells_from validity.now
-        (λ i. integer_of T.kind (slice_index_or items.now i [])) from (end - from)) result }
+        (λ i. number_of T.kind (slice_index_or items.now i [])) from (end - from)) result }
 {
     let start = first_valid(validity, from, end);
     if start == end {
@@ -49,14 +49,14 @@ pub fn statistics_of_rows<const N: usize, T: Integer<N>>(
 }
 
 /// What some rows give, of which this is the first that is no null.
-fn gather<const N: usize, T: Integer<N>>(
+fn gather<const N: usize, T: Item<N>>(
     validity: &[u8],
     items: &[[u8; N]],
     from: usize,
     start: usize,
     end: usize,
 ) -> Gathered<T>
-    requires narrow { N ≤ 8 }
+    requires narrow { N ≤ 16 }
     requires from { from ≤ start }
     requires range { start < end }
     requires items { end ≤ length items.now }
@@ -74,7 +74,7 @@ fn gather<const N: usize, T: Integer<N>>(
 }
 
 /// What rows without a bitmap give: there is one at least.
-pub fn without_nulls<const N: usize, T: Integer<N>>(
+pub fn without_nulls<const N: usize, T: Item<N>>(
     validity: &[u8],
     items: &[[u8; N]],
     from: usize,
@@ -103,14 +103,14 @@ pub fn without_nulls<const N: usize, T: Integer<N>>(
 
 /// What rows with a bitmap give, of which this is the first that is no null. Most go by whole bytes
 /// of the bitmap.
-fn with_nulls<const N: usize, T: Integer<N>>(
+fn with_nulls<const N: usize, T: Item<N>>(
     validity: &[u8],
     items: &[[u8; N]],
     from: usize,
     start: usize,
     end: usize,
 ) -> Gathered<T>
-    requires narrow { N ≤ 8 }
+    requires narrow { N ≤ 16 }
     requires from { from ≤ start }
     requires range { start < end }
     requires items { end ≤ length items.now }
@@ -138,7 +138,7 @@ fn with_nulls<const N: usize, T: Integer<N>>(
 }
 
 /// The same, with the rows up to an end.
-fn by_rows<const N: usize, T: Integer<N>>(
+fn by_rows<const N: usize, T: Item<N>>(
     validity: &[u8],
     items: &[[u8; N]],
     from: usize,
@@ -177,7 +177,7 @@ fn by_rows<const N: usize, T: Integer<N>>(
 
 /// The same, with the rows of whole bytes of the bitmap. In place of what stands under a null each
 /// extreme takes one that is known, which leaves it as it is.
-fn by_bytes<const N: usize, T: Integer<N>>(
+fn by_bytes<const N: usize, T: Item<N>>(
     validity: &[u8],
     items: &[[u8; N]],
     from: usize,

@@ -1,7 +1,9 @@
 //! Kinds of columns.
 
 ghost use Rattle.std.specs.Prelude.{◌≡◌};
-ghost use Rattle.arrow_columns.specs.Words.{integer_kind_at, kind_at};
+ghost use Rattle.arrow_columns.specs.Words.{integer_kind_at, kind_at, kind_with};
+
+use crate::formats::Format;
 
 /// A kind of integer.
 #[derive(Clone, Copy, Debug, PartialEq, Eq)]
@@ -14,6 +16,20 @@ pub enum IntegerKind {
     I16,
     I32,
     I64,
+}
+
+/// What an item of a buffer is.
+#[derive(Clone, Copy, Debug, PartialEq, Eq)]
+pub enum ItemKind {
+    /// An integer.
+    Integer(IntegerKind),
+    /// A float of 32 bits, which stands for its storage: all NaNs are equal and above infinity, and
+    /// both zeros are one.
+    F32,
+    /// A float of 64 bits, likewise.
+    F64,
+    /// An integer of 128 bits with a sign.
+    I128,
 }
 
 /// A kind of column.
@@ -33,6 +49,8 @@ pub enum Kind {
     LargeBinary,
     /// Nulls alone.
     Null,
+    /// Values of a logical type.
+    Logical(Format),
 }
 
 impl IntegerKind {
@@ -55,9 +73,17 @@ impl IntegerKind {
 }
 
 impl Kind {
-    /// The kind with this code: 0 to 7 are those of integers, then come the others in their order.
+    /// The kind with this code: 0 to 7 are those of integers, then come the others in their order, and
+    /// from 14 on the formats of logical types. Decimals have none without a precision.
     pub fn from_code(code: u8) -> Option<Kind>
         ensures { result ≡ kind_at code }
+    {
+        Kind::with_code(code, 0, 0)
+    }
+
+    /// The kind with this code, and with this precision and scale if it is of decimals.
+    pub fn with_code(code: u8, precision: u8, scale: u8) -> Option<Kind>
+        ensures { result ≡ kind_with code precision scale }
     {
         match code {
             8 => Some(Kind::Boolean),
@@ -66,7 +92,8 @@ impl Kind {
             11 => Some(Kind::Binary),
             12 => Some(Kind::LargeBinary),
             13 => Some(Kind::Null),
-            _ => Some(Kind::Integer(IntegerKind::from_code(code)?)),
+            _ if code < 8 => Some(Kind::Integer(IntegerKind::from_code(code)?)),
+            _ => Some(Kind::Logical(Format::from_code(code, precision, scale)?)),
         }
     }
 }

@@ -14,7 +14,9 @@ mod checking;
 mod columns;
 mod errors;
 mod extremes;
+mod formats;
 mod integers;
+mod items;
 mod kinds;
 mod offset_width;
 mod offsets;
@@ -27,9 +29,10 @@ pub use byte_spans::{ByteSpan, items_are_bytes};
 pub use casts::CastError;
 pub use columns::{Column, row_count_of};
 pub use errors::{Buffer, ColumnError};
-pub use kinds::{IntegerKind, Kind};
+pub use formats::{DecimalWidth, Format};
+pub use kinds::{IntegerKind, ItemKind, Kind};
 pub use offset_width::OffsetWidth;
 pub use statistics::{
     BooleanStatistics, ByteExtremes, ByteStatistics, IntegerExtremes, IntegerStatistics,
 };
-pub use tested_rows::{BooleanRows, ByteRows, IntegerRows, Rows};
+pub use tested_rows::{BooleanRows, ByteRows, IntegerRows, ItemRows, LogicalRows, Rows};

@@ -1,11 +1,13 @@
 //! What is read of the rows of a column: statistics, and each cell by its row.
 
-ghost use Rattle.std.specs.Prelude.{◌≡◌, ◌+◌, ◌-◌, ◌*◌, ◌<◌, ◌≤◌, Some, length, slice_get};
+ghost use Rattle.std.specs.Prelude.{◌≡◌, ◌+◌, ◌-◌, ◌*◌, ◌<◌, ◌≤◌, IfSome, IsSomeAnd, MatchBool, MatchOption, Some};
+ghost use Rattle.std.specs.Prelude.{length, slice_get};
 ghost use Rattle.std.specs.Option.{option_copied};
-ghost use Rattle.arrow_columns.specs.Words.{AreBooleanStatisticsOf, AreByteStatisticsOf, AreStatisticsOf, HasRows};
-ghost use Rattle.arrow_columns.specs.Words.{IsByteColumn, boolean_cells, byte_cells, bytes_between};
+ghost use Rattle.arrow_columns.specs.Words.{AreBooleanStatisticsOf, AreByteStatisticsOf, AreStatisticsOf};
+ghost use Rattle.arrow_columns.specs.Words.{AreWithinBefore, HasRows, IsByteColumn, IsFirstOutside, IsWithin};
+ghost use Rattle.arrow_columns.specs.Words.{boolean_cells, byte_cells, bytes_between};
 ghost use Rattle.arrow_columns.specs.Words.{bytes_of_offset, cells_from, end_of, integer_cells, integer_of};
-ghost use Rattle.arrow_columns.specs.Words.{item_at, offset_in, width_of};
+ghost use Rattle.arrow_columns.specs.Words.{item_at, item_cells, items_of, number_of, offset_in, width_of, width_of_item};
 
 use crate::bitmaps::{is_row_valid, is_set};
 use crate::booleans::statistics_of_bits;
@@ -13,20 +15,20 @@ use crate::byte_extremes::statistics_of_byte_rows;
 use crate::byte_items::row;
 use crate::columns::Column;
 use crate::extremes::statistics_of_rows;
-use crate::integers::Integer;
-use crate::kinds::IntegerKind;
+use crate::items::{Item, Storage32, Storage64};
+use crate::kinds::{IntegerKind, ItemKind};
 use crate::offset_width::OffsetWidth;
 use crate::offsets::Offset;
 use crate::statistics::{BooleanStatistics, ByteStatistics, IntegerStatistics};
-use crate::tested_rows::{BooleanRows, ByteRows, IntegerRows};
+use crate::tested_rows::{BooleanRows, ByteRows, IntegerRows, ItemRows, LogicalRows};
 
 /// The statistics of a column of integers of N bytes.
-fn statistics_of_integers<const N: usize, T: Integer<N>>(column: Column) -> IntegerStatistics
+fn statistics_of_integers<const N: usize, T: Item<N>>(column: Column) -> IntegerStatistics
     requires some { 0 < N }
-    requires narrow { N ≤ 8 }
+    requires narrow { N ≤ 16 }
     requires rows { HasRows column }
     requires values { end_of column * N ≤ length column.values.now }
-    ensures { AreStatisticsOf (cells_from column.entry.validity.now (λ i. integer_of T.kind
+    ensures { AreStatisticsOf (cells_from column.entry.validity.now (λ i. number_of T.kind
         (item_at N column.entry.values.now i)) column.entry.offset column.entry.length) result }
 {
     let (items, _) = column.values.as_chunks::<N>();
@@ -35,11 +37,11 @@ fn statistics_of_integers<const N: usize, T: Integer<N>>(column: Column) -> Inte
 }
 
 /// Integer i of some values.
-fn integer<const N: usize, T: Integer<N>>(values: &[u8], i: usize) -> i128
+fn integer<const N: usize, T: Item<N>>(values: &[u8], i: usize) -> i128
     requires some { 0 < N }
-    requires narrow { N ≤ 8 }
+    requires narrow { N ≤ 16 }
     requires values { (i + 1) * N ≤ length values.now }
-    ensures { result ≡ integer_of T.kind (item_at N values.now i) }
+    ensures { result ≡ number_of T.kind (item_at N values.now i) }
 {
     let (items, _) = values.as_chunks::<N>();
     T::of_bytes(items[i]).whole()
@@ -59,6 +61,19 @@ fn integer_of_kind(kind: IntegerKind, values: &[u8], i: usize) -> i128
         IntegerKind::I16 => integer::<2, i16>(values, i),
         IntegerKind::I32 => integer::<4, i32>(values, i),
         IntegerKind::I64 => integer::<8, i64>(values, i),
+    }
+}
+
+/// The number of item i of some values of this kind.
+fn number_of_kind(kind: ItemKind, values: &[u8], i: usize) -> i128
+    requires { (i + 1) * width_of_item kind ≤ length values.now }
+    ensures { result ≡ number_of kind (item_at (width_of_item kind) values.now i) }
+{
+    match kind {
+        ItemKind::Integer(kind) => integer_of_kind(kind, values, i),
+        ItemKind::F32 => integer::<4, Storage32>(values, i),
+        ItemKind::F64 => integer::<8, Storage64>(values, i),
+        ItemKind::I128 => integer::<16, i128>(values, i),
     }
 }
 
@@ -123,6 +138,89 @@ impl IntegerRows<'_> {
             Some(integer_of_kind(self.kind, column.values, i))
         } else {
             None
+        }
+    }
+}
+
+impl ItemRows<'_> {
+    /// The statistics of the column.
+    pub fn statistics(&self) -> IntegerStatistics
+        ensures { AreStatisticsOf (item_cells self.now.kind self.now.column) result }
+    {
+        let column = self.column;
+        match self.kind {
+            ItemKind::Integer(kind) => IntegerRows { kind, column }.statistics(),
+            ItemKind::F32 => statistics_of_integers::<4, Storage32>(column),
+            ItemKind::F64 => statistics_of_integers::<8, Storage64>(column),
+            ItemKind::I128 => statistics_of_integers::<16, i128>(column),
+        }
+    }
+
+    /// The number of a row, or `None` where it is null.
+    pub fn number_at(&self, row: usize) -> Option<i128>
+        requires { row < self.now.column.length }
+        ensures { slice_get (item_cells self.now.kind self.now.column) row ≡ Some result }
+    {
+        let column = self.column;
+        let i = column.offset + row;
+        if is_row_valid(column.validity, i, column.offset + column.length) {
+            Some(number_of_kind(self.kind, column.values, i))
+        } else {
+            None
+        }
+    }
+
+    /// The first row whose number is outside of a range. The extremes say whether there is one.
+    pub fn first_outside(&self, least: i128, greatest: i128) -> Option<usize>
+        ensures { let cells = item_cells self.now.kind self.now.column in
+            MatchOption result (AreWithinBefore least greatest cells self.now.column.length)
+            (IsFirstOutside least greatest cells) }
+    {
+        let statistics = self.statistics();
+        let Some(extremes) = statistics.extremes else {
+            return None;
+        };
+        if least <= extremes.least && extremes.greatest <= greatest {
+            return None;
+        }
+        self.find_outside(least, greatest)
+    }
+
+    /// The same, row by row.
+    fn find_outside(&self, least: i128, greatest: i128) -> Option<usize>
+        ensures { let cells = item_cells self.now.kind self.now.column in
+            MatchOption result (AreWithinBefore least greatest cells self.now.column.length)
+            (IsFirstOutside least greatest cells) }
+    {
+        for row in 0..self.column.length {
+            if is_outside(self.number_at(row), least, greatest) {
+                return Some(row);
+            }
+        }
+        None
+    }
+}
+
+/// Whether there is a number, and it is outside of a range.
+fn is_outside(cell: Option<i128>, least: i128, greatest: i128) -> bool
+    ensures { MatchBool result (IsSomeAnd cell (λ z. ¬ (IsWithin least greatest z)))
+        (IfSome cell (IsWithin least greatest)) }
+{
+    match cell {
+        Some(number) => number < least || greatest < number,
+        None => false,
+    }
+}
+
+impl<'a> LogicalRows<'a> {
+    /// The same rows, as numbers: the storages of their values.
+    pub fn numbers(&self) -> ItemRows<'a>
+        ensures kind { result.kind ≡ items_of self.now.format }
+        ensures column { result.column ≡ self.now.column }
+    {
+        ItemRows {
+            kind: self.format.items(),
+            column: self.column,
         }
     }
 }

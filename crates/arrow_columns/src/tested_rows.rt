@@ -1,9 +1,11 @@
 //! The rows of columns that were tested.
 
-ghost use Rattle.arrow_columns.specs.Columns.{IsBooleanColumn, IsByteColumn, IsIntegerColumn};
+ghost use Rattle.arrow_columns.specs.Columns.{IsBooleanColumn, IsByteColumn, IsIntegerColumn, IsItemColumn};
+ghost use Rattle.arrow_columns.specs.Formats.{items_of};
 
 use crate::columns::Column;
-use crate::kinds::IntegerKind;
+use crate::formats::Format;
+use crate::kinds::{IntegerKind, ItemKind};
 use crate::offset_width::OffsetWidth;
 
 /// A column of integers, whose buffers are long enough.
@@ -12,6 +14,22 @@ pub struct IntegerRows<'a> {
     pub kind: IntegerKind,
     pub column: Column<'a>,
     pub ghost is_column: { IsIntegerColumn kind column },
+}
+
+/// A column of items of any kind, whose buffers are long enough.
+#[derive(Clone, Copy)]
+pub struct ItemRows<'a> {
+    pub kind: ItemKind,
+    pub column: Column<'a>,
+    pub ghost is_column: { IsItemColumn kind column },
+}
+
+/// A column of a logical type, whose buffers are long enough.
+#[derive(Clone, Copy)]
+pub struct LogicalRows<'a> {
+    pub format: Format,
+    pub column: Column<'a>,
+    pub ghost is_column: { IsItemColumn (items_of format) column },
 }
 
 /// A column of booleans, whose bitmaps are long enough.
@@ -40,4 +58,6 @@ pub enum Rows<'a> {
     Bytes(ByteRows<'a>),
     /// So many nulls.
     Nulls(usize),
+    /// Values of a logical type: each row is null or one.
+    Values(LogicalRows<'a>),
 }

@@ -1,5 +1,7 @@
 mod CellLaws
 mod ContentLaws
+mod FormatValues
 mod KindRanges
 pub mod TableSteps
 mod TypeLaws
+mod ValueSteps

@@ -1,12 +1,13 @@
 -- The contents of a column that can be read are those of valid values of its type.
-use Rattle.std.proofs.Common.{◌≡◌, ◌∙◌, ℕ, ℤ, ◌+◌, ◌<◌, IsUtf8, List, map, length, replicate, get_or, arith, ap, refl, subst, sym, Bool, Option, Some, None, slice_get, true}
+use Rattle.std.proofs.Common.{ℕ, ℤ, ◌+◌, ◌<◌, IsUtf8, List, map, length, get_or, arith, refl, subst, sym, Bool, Option, Some, None}
 use Rattle.std.specs.List.{All}
 use Rattle.std.specs.Option.{IfSome}
 use Rattle.std.proofs.lemmas.List.{get_or-map, get_or-replicate, length-map, length-replicate}
 use Rattle.arrow_columns.specs.Bitmaps.{bit_of, is_valid}
 use Rattle.arrow_columns.specs.Cells.{cell_at}
 use Rattle.arrow_columns.specs.Checked.{AreRowsOf}
-use Rattle.arrow_columns.specs.Columns.{boolean_cells, byte_cells, integer_cells, offset_in, with_start}
+use Rattle.arrow_columns.specs.Columns.{boolean_cells, byte_cells, integer_cells, logical_cells, offset_in, with_start}
+use Rattle.arrow_columns.specs.Formats.{IsValueOf}
 use Rattle.arrow_columns.specs.Integers.{integer_of, item_at, width_of}
 use Rattle.arrow_columns.specs.Offsets.{bytes_between}
 use Rattle.arrow_columns.specs.Spans.{AreBytes}
@@ -14,17 +15,18 @@ use Rattle.arrow_columns.specs.declared.columns.Column.{Column}
 use Rattle.arrow_columns.specs.declared.kinds.IntegerKind.{IntegerKind}
 use Rattle.arrow_columns.specs.declared.offset_width.OffsetWidth.{OffsetWidth}
 use Rattle.arrow_columns.specs.declared.tested_rows.Rows.{Rows}
-use Rattle.arrow_columns.specs.declared.tested_rows.Rows.TheVariants.{Booleans, Bytes, Integers, Nulls, Strings}
+use Rattle.arrow_columns.specs.declared.tested_rows.Rows.TheVariants.{Booleans, Bytes, Integers, Nulls, Strings, Values}
 use Rattle.vortex_dtype.specs.TypeTree.{TypeTree, binary_type, bool_type, integer_type, null_type, utf8_type}
 use Rattle.vortex_dtype.specs.declared.nullability.Nullability.TheVariants.{Nullable}
 use Rattle.vortex_pvalue.specs.Numbers.{InRange}
 use Rattle.vortex_value.specs.Values.Content.{Content, null, string, text, truth, whole}
 use Rattle.vortex_value.specs.Values.RawTree.{absent, raw_bool, raw_bytes, raw_integer, raw_text}
-use Rattle.column_cells.specs.Contents.{HasTexts, byte_contents, content_or_null, contents_of_column, contents_of_rows, boolean_contents, integer_contents, text_contents}
+use Rattle.column_cells.specs.Contents.{HasTexts, content_or_null, contents_of_column, contents_of_rows, stored_content}
 use Rattle.column_cells.specs.Laws.{ContentsAreOfType, IsOfType}
-use Rattle.column_cells.specs.Types.{ptype_of_kind, type_of_column, type_of_rows}
+use Rattle.column_cells.specs.Types.{ptype_of_kind, type_of_format, type_of_rows}
 use Rattle.column_cells.proofs.CellLaws.{all_cells, of_value}
 use Rattle.column_cells.proofs.ContentLaws.{same_contents, same_type, texts_of, with_cases}
+use Rattle.column_cells.proofs.FormatValues.{null_of_format, value_of_format}
 use Rattle.column_cells.proofs.KindRanges.{in_kind, item_bytes, range_bytes}
 
 -- what holds of each cell that is no null makes its content one of the type
@@ -69,6 +71,7 @@ AreRowBytes (Booleans rows) = Unit {0}
 AreRowBytes (Strings rows) = AreBytes rows.column.values.now
 AreRowBytes (Bytes rows) = AreBytes rows.column.values.now
 AreRowBytes (Nulls count) = Unit {0}
+AreRowBytes (Values rows) = Unit {0}
 
 row_of_type : (rows : Rows) → HasTexts rows → AreRowBytes rows → (row : ℕ) (d : Content) → row < length (contents_of_rows rows) → IsOfType (type_of_rows rows) (get_or (contents_of_rows rows) row d)
 row_of_type (Integers rows) texts bytes row d l =
@@ -84,6 +87,9 @@ row_of_type (Bytes rows) texts bytes row d l =
     (bytes_in rows.width rows.column bytes) row d l
 row_of_type (Nulls count) texts bytes row d l =
     subst (IsOfType null_type) (sym (get_or-replicate count row null d (omega (arith, l, length-replicate count null)))) (record { value = absent; valid = refl; is = refl; bytes = tt })
+row_of_type (Values rows) texts bytes row d l =
+    each_of_type (stored_content rows.format) (type_of_format rows.format) (IsValueOf rows.format) (logical_cells rows.format rows.column) (null_of_format rows.format)
+    (λ z h. value_of_format rows.format z texts.0 h) texts.1 row d l
 
 bytes_start : (column : Column) → AreBytes column.values.now → AreBytes (with_start column).values.now
 bytes_start column h = with_cases column (λ c. AreBytes c.values.now) (λ e. h) h
@@ -94,6 +100,7 @@ row_bytes column (Booleans rows) h bytes = tt
 row_bytes column (Strings rows) h bytes = subst (λ (c : Column). AreBytes c.values.now) (sym h.1) (bytes_start column bytes)
 row_bytes column (Bytes rows) h bytes = subst (λ (c : Column). AreBytes c.values.now) (sym h.1) (bytes_start column bytes)
 row_bytes column (Nulls count) h bytes = tt
+row_bytes column (Values rows) h bytes = tt
 
 pub of_type : ContentsAreOfType
 of_type column rows row d h bytes l =

@@ -1,17 +1,17 @@
 //! The scalars of cells.
 
 ghost use Rattle.std.specs.Prelude.{◌≡◌, ◌<◌, IfErr, IfOk, IfSome, IsSomeAnd, IsUtf8, length};
-ghost use Rattle.column_cells.specs.Words.{InRange, IsValid, Nullable, OutOfMemory, binary_type, bool_type};
-ghost use Rattle.column_cells.specs.Words.{content_or_null, integer_type, option_copied, ptype_of_kind};
-ghost use Rattle.column_cells.specs.Words.{scalar_content, scalar_type, string, text, truth, utf8_type, whole};
+ghost use Rattle.column_cells.specs.Words.{InRange, IsSound, IsValid, IsValueOf, Nullable, OutOfMemory};
+ghost use Rattle.column_cells.specs.Words.{binary_type, bool_type, content_or_null, integer_type, option_copied};
+ghost use Rattle.column_cells.specs.Words.{ptype_of_kind, scalar_content, scalar_type, stored_content, string};
+ghost use Rattle.column_cells.specs.Words.{text, truth, type_of_format, utf8_type, whole};
 
-use crate::types::ptype_of;
-use arrow_columns::IntegerKind;
+use crate::types::{dtype_of_format, ptype_of};
+use crate::values::{bool_value, byte_value, integer_value, stored_value, text_value};
+use arrow_columns::{Format, IntegerKind};
 use std::alloc::Global;
-use std::str;
-use vortex_dtype::{BufferString, ByteBuffer, DType, INLINE_BYTES, Nullability, VortexError};
-use vortex_pvalue::PValue;
-use vortex_value::{Scalar, ScalarValue};
+use vortex_dtype::{DType, INLINE_BYTES, Nullability, VortexError};
+use vortex_value::Scalar;
 
 /// The scalar of an integer of the kind, or of a null.
 pub fn integer_scalar(kind: IntegerKind, cell: Option<i128>) -> Scalar
@@ -20,17 +20,9 @@ pub fn integer_scalar(kind: IntegerKind, cell: Option<i128>) -> Scalar
     ensures content { scalar_content result ≡ content_or_null whole cell }
     ensures valid { IsValid result }
 {
-    let ptype = ptype_of(kind);
-    let dtype = DType::Primitive(ptype, Nullability::Nullable);
-    let Some(whole) = cell else {
-        return Scalar::null(dtype);
-    };
-    let Some(number) = PValue::from_whole(whole, ptype) else {
-        unreachable!()
-    };
     Scalar {
-        dtype,
-        value: Some(ScalarValue::Primitive(number)),
+        dtype: DType::Primitive(ptype_of(kind), Nullability::Nullable),
+        value: integer_value(kind, cell),
     }
 }
 
@@ -40,9 +32,9 @@ pub fn bool_scalar(cell: Option<bool>) -> Scalar
     ensures content { scalar_content result ≡ content_or_null truth cell }
     ensures valid { IsValid result }
 {
-    match cell {
-        Some(value) => Scalar::bool(value, Nullability::Nullable),
-        None => Scalar::null(DType::Bool(Nullability::Nullable)),
+    Scalar {
+        dtype: DType::Bool(Nullability::Nullable),
+        value: bool_value(cell),
     }
 }
 
@@ -57,14 +49,11 @@ pub fn text_scalar(alloc: Global, cell: Option<&[u8]>) -> Result<Scalar, VortexE
     ensures refused { IfErr result (λ e. (e ≡ OutOfMemory)
         × IsSomeAnd (option_copied cell.entry) (λ bytes. INLINE_BYTES < length bytes)) }
 {
-    match cell {
-        Some(bytes) => {
-            let string = unsafe { str::from_utf8_unchecked(bytes) };
-            let buffer = BufferString::from_str(alloc, string)?;
-            Ok(Scalar::utf8(buffer, Nullability::Nullable))
-        }
-        None => Ok(Scalar::null(DType::Utf8(Nullability::Nullable))),
-    }
+    let value = text_value(alloc, cell)?;
+    Ok(Scalar {
+        dtype: DType::Utf8(Nullability::Nullable),
+        value,
+    })
 }
 
 /// The scalar of bytes, or of a null.
@@ -77,11 +66,31 @@ pub fn byte_scalar(alloc: Global, cell: Option<&[u8]>) -> Result<Scalar, VortexE
     ensures refused { IfErr result (λ e. (e ≡ OutOfMemory)
         × IsSomeAnd (option_copied cell.entry) (λ bytes. INLINE_BYTES < length bytes)) }
 {
-    match cell {
-        Some(bytes) => {
-            let buffer = ByteBuffer::from_slice(alloc, bytes)?;
-            Ok(Scalar::binary(buffer, Nullability::Nullable))
-        }
-        None => Ok(Scalar::null(DType::Binary(Nullability::Nullable))),
-    }
+    let value = byte_value(alloc, cell)?;
+    Ok(Scalar {
+        dtype: DType::Binary(Nullability::Nullable),
+        value,
+    })
+}
+
+/// The scalar of a value of a format, by its number, or of a null.
+///
+/// `OutOfMemory` if there is no memory for its type.
+pub fn value_scalar(
+    alloc: Global,
+    format: Format,
+    cell: Option<i128>,
+) -> Result<Scalar, VortexError>
+    requires sound { IsSound format }
+    requires value { IfSome cell (IsValueOf format) }
+    ensures typed { IfOk result (λ x. scalar_type x ≡ type_of_format format) }
+    ensures content { IfOk result (λ x. scalar_content x ≡ content_or_null (stored_content format) cell) }
+    ensures valid { IfOk result IsValid }
+    ensures refused { IfErr result (λ e. e ≡ OutOfMemory) }
+{
+    let dtype = dtype_of_format(alloc, format)?;
+    Ok(Scalar {
+        dtype,
+        value: stored_value(alloc, format, cell),
+    })
 }

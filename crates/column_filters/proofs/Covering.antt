@@ -3,7 +3,8 @@ use Rattle.std.proofs.Common.{◌≡◌, ◌≢◌, ℕ, ◌+◌, ◌<◌, ◌�
 use Rattle.std.proofs.lemmas.Bool.{false≢true}
 use Rattle.std.proofs.lemmas.Option.{same_Some, slice_get-get_or, slice_get_within}
 use Rattle.vortex_dtype.specs.TypeTree.{TypeTree, null_type}
-use Rattle.statistics_bytes.specs.Pieces.{Says, nothing_known}
+use Rattle.named_statistics.specs.Named.{SaysNamed}
+use Rattle.statistics_bytes.specs.Pieces.{nothing_known}
 use Rattle.vortex_cells.specs.Cells.{Cell, cell_order}
 use Rattle.vortex_statistics.specs.Statistics.{AreRight, Known}
 use Rattle.vortex_cells.proofs.CellLaws.{IsOrder}
@@ -22,7 +23,7 @@ open_known : AreOpen nothing_known
 open_known = record { rows = lit< tt; nulls = refl; lower = refl; upper = refl }
 
 -- a piece has bytes, or leaves all open
-open-or-bytes : (t : TypeTree) (piece : List ℕ) (s : Known) → Says t piece s → AreOpen s ⊎ (piece ≢ [])
+open-or-bytes : (t : TypeTree) (piece : List ℕ) (s : Known) → SaysNamed t piece s → AreOpen s ⊎ (piece ≢ [])
 open-or-bytes t [] s says = inl (subst AreOpen (sym says) open_known)
 open-or-bytes t (b ∷ piece) s says = inr (λ e. absurd cc)
 

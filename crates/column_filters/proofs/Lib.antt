@@ -1,5 +1,6 @@
 mod ColumnSteps
 mod Covering
 mod MaskSteps
+mod NamedSteps
 mod RowSteps
 mod ZoneSteps

@@ -8,7 +8,8 @@ use Rattle.std.proofs.lemmas.List.{get_or-set_other, get_or-set_same, length-map
 use Rattle.vortex_dtype.specs.TypeOf.{type_of}
 use Rattle.vortex_dtype.specs.TypeTree.{TypeTree, null_type}
 use Rattle.vortex_dtype.specs.declared.types.DType.{DType}
-use Rattle.statistics_bytes.specs.Pieces.{IsBadPiece, Says, nothing_known}
+use Rattle.named_statistics.specs.Named.{IsBadNamedPiece, SaysNamed}
+use Rattle.statistics_bytes.specs.Pieces.{nothing_known}
 use Rattle.vortex_statistics.specs.Statistics.{Known, known}
 use Rattle.vortex_statistics.specs.declared.column_statistics.ColumnStatistics.{ColumnStatistics}
 use Rattle.vortex_statistics.specs.declared.error.StatisticsError.{StatisticsError}
@@ -22,14 +23,14 @@ use Rattle.column_filters.specs.declared.errors.ZoneError.TheVariants.{BadBytes,
 
 -- ---- one piece
 
-pub said_at : (t : TypeTree) (bytes offsets part : List ℕ) (p : ℕ) (s : Known) → IsPiece bytes offsets p → part ≡ piece_at bytes offsets p → Says t part s → IsSaid t bytes offsets p s
-said_at t bytes offsets part p s piece is says = record { piece = piece; says = subst (λ xs. Says t xs s) is says }
+pub said_at : (t : TypeTree) (bytes offsets part : List ℕ) (p : ℕ) (s : Known) → IsPiece bytes offsets p → part ≡ piece_at bytes offsets p → SaysNamed t part s → IsSaid t bytes offsets p s
+said_at t bytes offsets part p s piece is says = record { piece = piece; says = subst (λ xs. SaysNamed t xs s) is says }
 
-pub bad_at : (t : TypeTree) (bytes offsets part : List ℕ) (p : ℕ) (e : StatisticsError) → IsPiece bytes offsets p → part ≡ piece_at bytes offsets p → IsBadPiece t part e → IsBadAt t bytes offsets p (fault_of_piece p e)
-bad_at t bytes offsets part p refusals.OutOfMemory piece is bad = (piece, subst (λ xs. IsBadPiece t xs refusals.OutOfMemory) is bad)
+pub bad_at : (t : TypeTree) (bytes offsets part : List ℕ) (p : ℕ) (e : StatisticsError) → IsPiece bytes offsets p → part ≡ piece_at bytes offsets p → IsBadNamedPiece t part e → IsBadAt t bytes offsets p (fault_of_piece p e)
+bad_at t bytes offsets part p refusals.OutOfMemory piece is bad = (piece, subst (λ xs. IsBadNamedPiece t xs refusals.OutOfMemory) is bad)
 bad_at t bytes offsets part p refusals.TooManyRows piece is bad = absurd bad
-bad_at t bytes offsets part p refusals.HasVariant piece is bad = (refl, piece, subst (λ xs. IsBadPiece t xs refusals.HasVariant) is bad)
-bad_at t bytes offsets part p (refusals.BadBytes place) piece is bad = (refl, piece, subst (λ xs. IsBadPiece t xs (refusals.BadBytes place)) is bad)
+bad_at t bytes offsets part p refusals.HasVariant piece is bad = (refl, piece, subst (λ xs. IsBadNamedPiece t xs refusals.HasVariant) is bad)
+bad_at t bytes offsets part p (refusals.BadBytes place) piece is bad = (refl, piece, subst (λ xs. IsBadNamedPiece t xs (refusals.BadBytes place)) is bad)
 
 -- ---- the pieces of a zone
 

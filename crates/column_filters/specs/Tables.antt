@@ -1,13 +1,15 @@
 -- Columns of which a filter is asked, and why it cannot be.
-use Rattle.std.specs.Prelude.{◌≡◌, ◌≢◌, ℕ, ◌<◌, ◌≤◌, List, length, map, slice_index_or, take}
+use Rattle.std.specs.Prelude.{◌≡◌, ◌≢◌, ◌⊎◌, ℕ, ◌<◌, ◌≤◌, Bool, true, false, List, length, map, slice_index_or, take}
 use Rattle.std.specs.List.{All}
 use Rattle.arrow_columns.specs.Checked.{AreRowsOf}
 use Rattle.arrow_columns.specs.Errors.{IsErrorOf}
 use Rattle.arrow_columns.specs.declared.columns.Column.{Column}
 use Rattle.arrow_columns.specs.declared.tested_rows.Rows.{Rows}
+use Rattle.arrow_columns.specs.declared.tested_rows.Rows.TheVariants.{Nulls}
 use Rattle.vortex_dtype.specs.TypeTree.{Same, TypeTree, null_type}
 use Rattle.vortex_value.specs.Values.Content.{null}
 use Rattle.vortex_cells.specs.Cells.{Cell}
+use Rattle.vortex_filter.specs.Formula.{Formula, both, cell_at, comparison, constant, either, membership, negation, null_test, prefix_test, range}
 use Rattle.column_cells.specs.Contents.{HasTexts, contents_of_column, contents_of_rows}
 use Rattle.column_cells.specs.Tables.{AreSoundTo, HasFirstError}
 use Rattle.column_cells.specs.Types.{type_of_column, type_of_rows}
@@ -32,6 +34,20 @@ cell_of_rows row rows = record { typed = type_of_rows rows; content = slice_inde
 abbrev pub cells_of_rows : List Rows → ℕ → List Cell
 cells_of_rows columns row = map (cell_of_rows row) columns
 
+-- ---- columns that a formula names
+
+-- the formula has a test of the column at this place
+abbrev pub IsNamed : Formula → ℕ → Type 0
+IsNamed (constant t) k = ⊥
+IsNamed (comparison j op literal) k = j ≡ k
+IsNamed (null_test j) k = j ≡ k
+IsNamed (membership j literals) k = j ≡ k
+IsNamed (range j lower upper) k = j ≡ k
+IsNamed (prefix_test j prefix) k = j ≡ k
+IsNamed (both p q) k = IsNamed p k ⊎ IsNamed q k
+IsNamed (either p q) k = IsNamed p k ⊎ IsNamed q k
+IsNamed (negation p) k = IsNamed p k
+
 -- ---- reading columns
 
 -- the column can be read, is of the type up to nullability, and has so many rows
@@ -48,13 +64,18 @@ pub record IsReadFrom (column : Column) (t : TypeTree) (count : ℕ) (rows : Row
   pub contents : contents_of_rows rows ≡ contents_of_column column
   pub texts : HasTexts rows
 
--- the column at a place is sound for its type
-abbrev pub IsSoundAt : List TypeTree → ℕ → ℕ → Column → Type 0
-IsSoundAt types count k column = IsSound column (slice_index_or types k null_type) count
+-- this was read of it if it is named, and else nulls
+abbrev pub IsReadIf : Bool → Column → TypeTree → ℕ → Rows → Type 0
+IsReadIf true column t count rows = IsReadFrom column t count rows
+IsReadIf false column t count rows = rows ≡ Nulls count
 
--- the first columns are sound, and have so many rows
-abbrev pub AreSoundBefore : List Column → List TypeTree → ℕ → ℕ → Type 0
-AreSoundBefore columns types count k = AreSoundTo (IsSoundAt types count) columns k
+-- the column at a place is sound for its type, if the formula names it: of the others nothing is asked
+abbrev pub IsSoundAt : Formula → List TypeTree → ℕ → ℕ → Column → Type 0
+IsSoundAt f types count k column = IsNamed f k → IsSound column (slice_index_or types k null_type) count
+
+-- the first columns are sound, and have so many rows, as far as the formula names them
+abbrev pub AreSoundBefore : Formula → List Column → List TypeTree → ℕ → ℕ → Type 0
+AreSoundBefore f columns types count k = AreSoundTo (IsSoundAt f types count) columns k
 
 -- each column has so many rows, and strings that are UTF-8
 abbrev pub HaveRows : List Rows → ℕ → Type 0
@@ -64,34 +85,40 @@ HaveRows columns count = All (λ rows. (length (contents_of_rows rows) ≡ count
 abbrev pub HasRow : List Rows → ℕ → Type 0
 HasRow columns row = All (λ rows. (row < length (contents_of_rows rows)) × HasTexts rows) columns
 
--- there are as many columns as types, and each is sound and has so many rows; of no columns there may be any number of rows
-pub record AreColumnsOf (columns : List Column) (types : List TypeTree) (count : ℕ) : Type 0 where
+-- there are as many columns as types, and each that the formula names is sound and has so many rows
+pub record AreColumnsOf (f : Formula) (columns : List Column) (types : List TypeTree) (count : ℕ) : Type 0 where
   pub counts : length columns ≡ length types
-  pub sound : AreSoundBefore columns types count (length columns)
+  pub sound : AreSoundBefore f columns types count (length columns)
 
--- these were read of the first columns, and have so many rows
-pub record AreReadFrom (columns : List Column) (count k : ℕ) (read : List Rows) : Type 0 where
-  pub cells : (row : ℕ) → cells_of_rows read row ≡ cells_of_columns (take k columns) row
+-- the rows have the same cell in each column that the formula names
+abbrev pub AgreeIn : Formula → List Cell → List Cell → Type 0
+AgreeIn f xs ys = (k : ℕ) → IsNamed f k → cell_at xs k ≡ cell_at ys k
+
+-- these were read of the first columns, and have so many rows: of those that the formula names the column's own, and else nulls
+pub record AreReadFrom (f : Formula) (columns : List Column) (count k : ℕ) (read : List Rows) : Type 0 where
+  pub cells : (row : ℕ) → AgreeIn f (cells_of_rows read row) (cells_of_columns (take k columns) row)
   pub rows : HaveRows read count
 
--- why a column at a place is not sound: the first reason in this order
+-- why a column at a place is not sound: the first reason in this order; or memory for its type was refused
 abbrev pub IsErrorAt : ℕ → Column → TypeTree → ℕ → MaskError → Type 0
-IsErrorAt k column t count OutOfMemory = ⊥
+IsErrorAt k column t count OutOfMemory = Unit {0}
 IsErrorAt k column t count WrongCount = ⊥
 IsErrorAt k column t count BufferTooSmall = ⊥
 IsErrorAt k column t count (Unreadable place fault) = (place ≡ k) × IsErrorOf column fault
 IsErrorAt k column t count (TypesDiffer place) = (place ≡ k) × ((rows : Rows) × AreRowsOf column rows) × ¬ (Same (type_of_column column) t)
 IsErrorAt k column t count (WrongLength place) = (place ≡ k) × ((rows : Rows) × AreRowsOf column rows) × Same (type_of_column column) t × ¬ (length (contents_of_column column) ≡ count)
 
--- why columns are not those of the types: the first that is not sound, if there are as many as types. Memory is asked only then.
-abbrev pub IsTableError : List Column → List TypeTree → ℕ → MaskError → Type 0
-IsTableError columns types count OutOfMemory = length columns ≡ length types
-IsTableError columns types count WrongCount = length columns ≢ length types
-IsTableError columns types count BufferTooSmall = ⊥
-IsTableError columns types count fault =
-    (length columns ≡ length types) × HasFirstError (IsSoundAt types count) (λ k column. IsErrorAt k column (slice_index_or types k null_type) count fault) columns
+-- why columns are not those of the types: of those that the formula names the first that is not sound, if there are as many columns
+-- as types. Memory is asked only then.
+abbrev pub IsTableError : Formula → List Column → List TypeTree → ℕ → MaskError → Type 0
+IsTableError f columns types count OutOfMemory = length columns ≡ length types
+IsTableError f columns types count WrongCount = length columns ≢ length types
+IsTableError f columns types count BufferTooSmall = ⊥
+IsTableError f columns types count fault =
+    (length columns ≡ length types)
+    × HasFirstError (IsSoundAt f types count) (λ k column. IsNamed f k × IsErrorAt k column (slice_index_or types k null_type) count fault) columns
 
 -- why there is no mask of so many bytes: it is too short for the rows, or else for such a reason
-abbrev pub IsMaskError : List Column → List TypeTree → ℕ → ℕ → MaskError → Type 0
-IsMaskError columns types count size BufferTooSmall = size < bitmap_length count
-IsMaskError columns types count size fault = (bitmap_length count ≤ size) × IsTableError columns types count fault
+abbrev pub IsMaskError : Formula → List Column → List TypeTree → ℕ → ℕ → MaskError → Type 0
+IsMaskError f columns types count size BufferTooSmall = size < bitmap_length count
+IsMaskError f columns types count size fault = (bitmap_length count ≤ size) × IsTableError f columns types count fault

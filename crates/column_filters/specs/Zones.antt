@@ -2,7 +2,8 @@
 use Rattle.std.specs.Prelude.{◌≡◌, ◌≢◌, ℕ, ◌+◌, ◌*◌, ◌<◌, ◌≤◌, List, [], length, slice_index, slice_index_or, slice_range, Contains, if◌then◌else◌}
 use Rattle.std.specs.Int.{bit_at}
 use Rattle.vortex_dtype.specs.TypeTree.{TypeTree, null_type}
-use Rattle.statistics_bytes.specs.Pieces.{IsBadPiece, Says, nothing_known}
+use Rattle.named_statistics.specs.Named.{IsBadNamedPiece, SaysNamed}
+use Rattle.statistics_bytes.specs.Pieces.{nothing_known}
 use Rattle.vortex_cells.specs.Cells.{Cell}
 use Rattle.vortex_statistics.specs.Statistics.{AreRight, Known}
 use Rattle.vortex_statistics.specs.declared.error.StatisticsError.{StatisticsError}
@@ -29,7 +30,7 @@ piece_at bytes offsets p = slice_range bytes (slice_index offsets p) (slice_inde
 -- piece p says these statistics of a column of the type
 pub record IsSaid (t : TypeTree) (bytes offsets : List ℕ) (p : ℕ) (s : Known) : Type 0 where
   pub piece : IsPiece bytes offsets p
-  pub says : Says t (piece_at bytes offsets p) s
+  pub says : SaysNamed t (piece_at bytes offsets p) s
 
 -- so many pieces, from p on, say these statistics of columns of the types
 pub record AreSaid (types : List TypeTree) (bytes offsets : List ℕ) (p count : ℕ) (said : List Known) : Type 0 where
@@ -68,11 +69,11 @@ fault_of_piece piece refusals.TooManyRows = OutOfMemory
 
 -- why piece p says nothing of a column of the type
 abbrev pub IsBadAt : TypeTree → List ℕ → List ℕ → ℕ → ZoneError → Type 0
-IsBadAt t bytes offsets p OutOfMemory = IsPiece bytes offsets p × IsBadPiece t (piece_at bytes offsets p) refusals.OutOfMemory
+IsBadAt t bytes offsets p OutOfMemory = IsPiece bytes offsets p × IsBadNamedPiece t (piece_at bytes offsets p) refusals.OutOfMemory
 IsBadAt t bytes offsets p WrongLength = ⊥
 IsBadAt t bytes offsets p (BadOffsets piece) = (piece ≡ p) × ¬ (IsPiece bytes offsets p)
-IsBadAt t bytes offsets p (BadBytes piece place) = (piece ≡ p) × IsPiece bytes offsets p × IsBadPiece t (piece_at bytes offsets p) (refusals.BadBytes place)
-IsBadAt t bytes offsets p (HasVariant piece) = (piece ≡ p) × IsPiece bytes offsets p × IsBadPiece t (piece_at bytes offsets p) refusals.HasVariant
+IsBadAt t bytes offsets p (BadBytes piece place) = (piece ≡ p) × IsPiece bytes offsets p × IsBadNamedPiece t (piece_at bytes offsets p) (refusals.BadBytes place)
+IsBadAt t bytes offsets p (HasVariant piece) = (piece ≡ p) × IsPiece bytes offsets p × IsBadNamedPiece t (piece_at bytes offsets p) refusals.HasVariant
 
 -- each of so many pieces, from p on, says something
 abbrev pub AreSaidBefore : List TypeTree → List ℕ → List ℕ → ℕ → ℕ → Type 0

@@ -9,7 +9,7 @@ ghost use Rattle.column_filters.specs.Words.{outcomes_byte, piece_at, type_of};
 
 use crate::errors::ZoneError;
 use filter_pruning::{Outcomes, outcomes_of};
-use statistics_bytes::decode_piece_into;
+use named_statistics::decode_named_piece_into;
 use std::alloc::Global;
 use vortex_dtype::DType;
 use vortex_filter::Filter;
@@ -169,7 +169,7 @@ fn read_piece(
         (IsBadAt (type_of dtype.now) statistics.now offsets.now piece) }
 {
     let bytes = bytes_of_piece(statistics, offsets, piece)?;
-    match decode_piece_into(alloc, dtype, bytes, read) {
+    match decode_named_piece_into(alloc, dtype, bytes, read) {
         Ok(()) => Ok(()),
         Err(refusal) => Err(fault_of_piece(piece, refusal)),
     }

@@ -1,5 +1,5 @@
 -- The column that is written of the cells of a column.
-use Rattle.std.proofs.Common.{◌≡◌, ◌∙◌, ℕ, ◌<◌, ◌≤◌, ◌⊎◌, inl, inr, List, length, map, get_or, replicate, sym, subst, ap, arith, Bool, true, false, ◌==◌, ◌||◌, if◌then◌else◌, refl, Some, None}
+use Rattle.std.proofs.Common.{◌≡◌, ◌∙◌, ℕ, ℤ, ◌<◌, ◌≤◌, ◌⊎◌, inl, inr, List, length, map, get_or, replicate, sym, subst, ap, arith, Bool, true, false, ◌==◌, ◌||◌, if◌then◌else◌, refl, Some, None}
 use Rattle.std.specs.Prelude.{slice_index}
 use Rattle.std.specs.List.{All}
 use Rattle.std.proofs.lemmas.Bool.Decides.{nat_tests}
@@ -7,12 +7,14 @@ use Rattle.std.proofs.lemmas.List.{ext_get_or, get_or-map, get_or-replicate, len
 use Rattle.std.proofs.lemmas.List.FromFn.{get_or-map-range_with_len, length-map-range_with_len}
 use Rattle.arrow_columns.specs.Bitmaps.{bit_of, bitmap_length, is_valid}
 use Rattle.arrow_columns.specs.Cells.{cell_at, cells_from}
-use Rattle.arrow_columns.specs.Integers.{integer_of, item_at, width_of}
+use Rattle.arrow_columns.specs.Integers.{integer_of, item_at, number_of, width_of, width_of_item}
 use Rattle.arrow_columns.specs.Offsets.{bytes_between}
 use Rattle.arrow_columns.specs.declared.kinds.IntegerKind.{IntegerKind}
 use Rattle.arrow_columns.specs.declared.kinds.Kind.{Kind}
-use Rattle.arrow_columns.specs.declared.kinds.Kind.TheVariants.{Binary, Boolean, Integer, LargeBinary, LargeUtf8, Null, Utf8}
-use Rattle.column_cells.specs.Contents.{content_or_null}
+use Rattle.arrow_columns.specs.declared.kinds.Kind.TheVariants.{Binary, Boolean, Integer, LargeBinary, LargeUtf8, Logical, Null, Utf8}
+use Rattle.arrow_columns.specs.Formats.{items_of}
+use Rattle.arrow_columns.specs.declared.formats.Format.{Format}
+use Rattle.column_cells.specs.Contents.{content_or_null, stored_content}
 use Rattle.column_cells.specs.Types.{ptype_of_kind, type_of_kind}
 use Rattle.vortex_dtype.specs.TypeTree.{TypeTree, binary_type, bool_type, integer_type, null_type, utf8_type}
 use Rattle.vortex_dtype.specs.declared.nullability.Nullability.TheVariants.{Nullable}
@@ -20,7 +22,7 @@ use Rattle.vortex_dtype.specs.declared.ptype.PType.{PType}
 use Rattle.vortex_value.specs.Validity.{Valid}
 use Rattle.vortex_value.specs.Values.Content.{Content, content, null, sequence, string, tagged, text, truth, typed as typed_child, whole}
 use Rattle.vortex_value.specs.Values.RawTree.{RawTree, absent, raw_bool, raw_bytes, raw_integer, raw_text, raw_tuple, raw_union, raw_variant}
-use Rattle.column_keys.specs.Layout.{AreBits, AreIntegers, AreStrings, IsColumnOf, bytes_in, is_present, number_in, truth_in}
+use Rattle.column_keys.specs.Layout.{AreBits, AreIntegers, AreNumbers, AreStrings, IsColumnOf, IsNumberIn, bytes_in, is_present, number_in, truth_in}
 use Rattle.column_keys.proofs.RowLaws.{content-there}
 
 -- ---- what cells of a type are
@@ -146,6 +148,27 @@ boolean-column raws validity values offsets typed buffer bits all = record {
         let fits = fits-truth (get_or raws i absent) (valid-there (type_of_kind Boolean) raws i typed l) (ap is_present (sym is) ∙ present) in
         ap truth (all.rows i l ∙ ap truth_in is) ∙ fits ∙ sym is
 
+-- ---- values of a logical type
+
+number-present : (format : Format) (c : Content) (z : ℤ) → is_present c ≡ true → IsNumberIn format c z → stored_content format z ≡ c
+number-present format null z e h = cc
+number-present format (truth b) z e h = h
+number-present format (whole y) z e h = h
+number-present format (text bs) z e h = h
+number-present format (string bs) z e h = h
+number-present format (sequence cs) z e h = h
+number-present format (tagged id c) z e h = h
+number-present format (typed_child t c) z e h = h
+
+pub value-column : (format : Format) (cells : List Content) (validity values offsets : List ℕ) → bitmap_length (length cells) ≤ length validity → AreBits is_present cells validity → AreNumbers format cells values
+    → IsColumnOf (Logical format) cells validity values offsets
+value-column format cells validity values offsets buffer bits all = record {
+  contents = contents-are (stored_content format) (λ i. number_of (items_of format) (item_at (width_of_item (items_of format)) values i)) validity cells buffer bits
+      (λ i l present. number-present format (get_or cells i null) _ present (all i l));
+  present = bits;
+  written = all;
+}
+
 text-contents : (raws : List RawTree) (validity values offsets : List ℕ) → All (Valid (utf8_type Nullable)) raws → bitmap_length (length (map content raws)) ≤ length validity → AreBits is_present (map content raws) validity → AreStrings (map content raws) values offsets
     → map (content_or_null text) (cells_from validity (bytes_between values (slice_index offsets)) 0 (length (map content raws))) ≡ map content raws
 text-contents raws validity values offsets typed buffer bits all = contents-are text (bytes_between values (slice_index offsets)) validity (map content raws) buffer bits (λ i l present. value i l present)
@@ -183,6 +206,7 @@ string-column LargeBinary raws validity values offsets of typed buffer bits all 
 string-column (Integer kind) raws validity values offsets of typed buffer bits all = absurd of
 string-column Boolean raws validity values offsets of typed buffer bits all = absurd of
 string-column Null raws validity values offsets of typed buffer bits all = absurd of
+string-column (Logical format) raws validity values offsets of typed buffer bits all = absurd of
 
 pub null-column : (raws : List RawTree) (validity values offsets : List ℕ) → All (Valid null_type) raws → AreBits is_present (map content raws) validity → IsColumnOf Null (map content raws) validity values offsets
 null-column raws validity values offsets typed bits = record {

@@ -1,7 +1,6 @@
 -- Steps of reading the columns of a table.
 use Rattle.std.proofs.Common.{◌≡◌, ℕ, ◌+◌, ◌<◌, List, [], ◌∷◌, ◌++◌, length, take, get_or, map, refl, sym, subst, ap, ap₂, ◌∙◌}
-use Rattle.std.specs.Global.{Global}
-use Rattle.std.specs.Prelude.{Result, Ok, Err, IsErr, IsErrAnd, IfErr, Vec}
+use Rattle.std.specs.Prelude.{Result, Ok, Err, IsErr, IsErrAnd, IfErr}
 use Rattle.std.specs.List.{All}
 use Rattle.std.proofs.lemmas.List.{map-append, take_more}
 use Rattle.std.proofs.lemmas.List.Elements.{All-nil, All-push}
@@ -41,7 +40,7 @@ table-fault columns options k d (Unreadable place fault) counts here all h = (co
 table-fault columns options k d (BadOptions place) counts here all h = (counts, first-error (IsSoundAt options (rows_in columns)) (λ j column. IsErrorAt j column (get_or options j 0) (rows_in columns) (BadOptions place)) columns k d here all h)
 table-fault columns options k d (WrongLength place) counts here all h = (counts, first-error (IsSoundAt options (rows_in columns)) (λ j column. IsErrorAt j column (get_or options j 0) (rows_in columns) (WrongLength place)) columns k d here all h)
 
-pub table-refused : (columns : List Column) (options : List ℕ) (r : Result (Vec KeyColumn Global) TableError) (e : TableError) → IsErr r × IsErrAnd r (λ f. f ≡ e) → IsTableError columns options e → IfErr r (λ f. IsTableError columns options f)
+pub table-refused : {X : Type 0} (columns : List Column) (options : List ℕ) (r : Result X TableError) (e : TableError) → IsErr r × IsErrAnd r (λ f. f ≡ e) → IsTableError columns options e → IfErr r (λ f. IsTableError columns options f)
 table-refused columns options (Ok p) e h k = tt
 table-refused columns options (Err f) e h k = subst (IsTableError columns options) (sym h.1) k
 

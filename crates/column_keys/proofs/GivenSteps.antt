@@ -1,12 +1,12 @@
 -- From kinds and options as they come to types, and from the keys' rows to what is answered.
-use Rattle.std.proofs.Common.{◌≡◌, ◌∙◌, ℕ, ◌<◌, inl, List, [], ◌∷◌, length, map, get_or, sym, subst, ap, arith, Option, Some, None}
+use Rattle.std.proofs.Common.{◌≡◌, ◌∙◌, ℕ, ◌<◌, List, [], ◌∷◌, length, map, get_or, sym, subst, ap, arith, Option, Some, None}
 use Rattle.std.specs.Global.{Global}
 use Rattle.std.specs.List.{All}
-use Rattle.std.specs.Prelude.{Result, Ok, Err, IsErr, IsErrAnd, IfErr, Vec, slice_index}
+use Rattle.std.specs.Prelude.{Vec}
 use Rattle.std.proofs.lemmas.List.{get_or-map, length-map}
-use Rattle.arrow_columns.specs.Kinds.{kind_at}
 use Rattle.arrow_columns.specs.declared.kinds.Kind.{Kind}
-use Rattle.arrow_columns.specs.declared.kinds.Kind.TheVariants.{Binary, Boolean, Integer, LargeBinary, LargeUtf8, Null, Utf8}
+use Rattle.arrow_columns.specs.declared.kinds.Kind.TheVariants.{Binary, Boolean, Integer, LargeBinary, LargeUtf8, Logical, Null, Utf8}
+use Rattle.column_items.proofs.FormatTypes.{no_variant_in}
 use Rattle.column_cells.specs.Types.{type_at}
 use Rattle.vortex_dtype.specs.TypeOf.{as_type_trees, type_of}
 use Rattle.vortex_dtype.specs.TypeTree.{null_type}
@@ -16,15 +16,14 @@ use Rattle.vortex_value.specs.Validity.{Valid}
 use Rattle.vortex_value.specs.Values.Content.{content}
 use Rattle.vortex_value.specs.declared.scalars.Scalar.{Scalar}
 use Rattle.column_keys.specs.Answers.{AreCellsBy, AreColumnsOfKeys, AreCountsOfKeys, HasCells, IsRefusal}
-use Rattle.column_keys.specs.Cells.{AreCellsOf, AreRowsOf, AreTyped, HaveColumn, raws_in, types_in}
-use Rattle.column_keys.specs.Errors.{IsFirstError, Refuses}
+use Rattle.column_keys.specs.Cells.{AreCellsOf, AreRowsOf, AreTyped, HaveColumn, raws_in}
 use Rattle.column_keys.specs.Layout.{values_length}
-use Rattle.column_keys.specs.Read.{AreCountedIn, AreWrittenIn, HasSpace, LackSpace}
+use Rattle.column_keys.specs.Read.{AreCountedIn, AreStored, AreWrittenIn, HasSpace, IsNoValueIn, LackSpace}
 use Rattle.column_keys.specs.Tables.{options_in}
-use Rattle.column_keys.specs.Types.{AreTypesError, HaveTypes, type_at_code, types_of_codes}
+use Rattle.column_keys.specs.Types.{HaveTypes, types_of_kinds}
 use Rattle.column_keys.specs.declared.buffers.ColumnBuffers.{ColumnBuffers}
 use Rattle.column_keys.specs.declared.errors.KeysError.{KeysError}
-use Rattle.column_keys.specs.declared.errors.KeysError.TheVariants.{BadBytes, BadOffsets, BadOptions, BufferTooSmall, OutOfMemory, UnknownKind, WrongLength}
+use Rattle.column_keys.specs.declared.errors.KeysError.TheVariants.{BufferTooSmall, NotAValue}
 use Rattle.column_keys.specs.declared.keys.RowKeys.{RowKeys}
 use Rattle.column_keys.proofs.ColumnsRead.{same-kind, written-before}
 use Rattle.column_keys.proofs.RowsRead.{cells-of, have-column, have-types, raws-count}
@@ -40,50 +39,51 @@ plain-kind (Some LargeUtf8) = tt
 plain-kind (Some Binary) = tt
 plain-kind (Some LargeBinary) = tt
 plain-kind (Some Null) = tt
+plain-kind (Some (Logical format)) = no_variant_in format
 
-pub plain-codes : (codes : List ℕ) → HaveNoVariant (as_type_trees (types_of_codes codes))
-plain-codes [] = tt
-plain-codes (code ∷ codes) = (plain-kind (kind_at code), plain-codes codes)
+pub plain-kinds : (found : List (Option Kind)) → HaveNoVariant (as_type_trees (types_of_kinds found))
+plain-kinds [] = tt
+plain-kinds (kind ∷ found) = (plain-kind kind, plain-kinds found)
 
 -- what was read of kinds and options
-pub record AreReadFrom (codes bytes : List ℕ) (keys : RowKeys) : Type 0 where
-  pub types : map type_of keys.dtypes.now ≡ types_of_codes codes
+pub record AreReadFrom (found : List (Option Kind)) (bytes : List ℕ) (keys : RowKeys) : Type 0 where
+  pub types : map type_of keys.dtypes.now ≡ types_of_kinds found
   pub options' : keys.options.now ≡ map options_in bytes
-  pub sound : HaveTypes codes bytes
+  pub sound : HaveTypes found bytes
 
-type-count : (codes bytes : List ℕ) (keys : RowKeys) → AreReadFrom codes bytes keys → length keys.dtypes.now ≡ length codes
-type-count codes bytes keys read = sym (length-map keys.dtypes.now type_of) ∙ ap length read.types ∙ length-map codes type_at_code
+type-count : (found : List (Option Kind)) (bytes : List ℕ) (keys : RowKeys) → AreReadFrom found bytes keys → length keys.dtypes.now ≡ length found
+type-count found bytes keys read = sym (length-map keys.dtypes.now type_of) ∙ ap length read.types ∙ length-map found type_at
 
-pub typed : (codes bytes : List ℕ) (keys : RowKeys) → AreReadFrom codes bytes keys → AreTyped keys
-typed codes bytes keys read = record {
-  counts = type-count codes bytes keys read ∙ sym (ap length read.options' ∙ length-map bytes options_in ∙ read.sound.counts);
-  plain = subst (λ ts. HaveNoVariant (as_type_trees ts)) (sym read.types) (plain-codes codes);
+pub typed : (found : List (Option Kind)) (bytes : List ℕ) (keys : RowKeys) → AreReadFrom found bytes keys → AreTyped keys
+typed found bytes keys read = record {
+  counts = type-count found bytes keys read ∙ sym (ap length read.options' ∙ length-map bytes options_in ∙ read.sound.counts);
+  plain = subst (λ ts. HaveNoVariant (as_type_trees ts)) (sym read.types) (plain-kinds found);
 }
 
 -- the rows have each column, with values of its type
-pub column-there : (codes bytes : List ℕ) (keys : RowKeys) (rows : List (Vec Scalar Global)) → AreReadFrom codes bytes keys → AreRowsOf keys rows → (which : ℕ) → which < length codes → HaveColumn rows which
-column-there codes bytes keys rows read all which l = have-column keys rows which all (omega (arith, l, type-count codes bytes keys read))
+pub column-there : (found : List (Option Kind)) (bytes : List ℕ) (keys : RowKeys) (rows : List (Vec Scalar Global)) → AreReadFrom found bytes keys → AreRowsOf keys rows → (which : ℕ) → which < length found → HaveColumn rows which
+column-there found bytes keys rows read all which l = have-column keys rows which all (omega (arith, l, type-count found bytes keys read))
 
-pub types-there : (codes bytes : List ℕ) (keys : RowKeys) (rows : List (Vec Scalar Global)) → AreReadFrom codes bytes keys → AreRowsOf keys rows → (which : ℕ) → which < length codes → All (Valid (type_at_code (slice_index codes which))) (raws_in rows which)
-types-there codes bytes keys rows read all which l =
-    have-types keys rows which (type_at_code (slice_index codes which)) all (omega (arith, l, type-count codes bytes keys read))
-    (sym (ap (λ ts. get_or ts which null_type) read.types ∙ get_or-map type_at_code codes which 0 null_type l))
+pub types-there : (found : List (Option Kind)) (bytes : List ℕ) (keys : RowKeys) (rows : List (Vec Scalar Global)) → AreReadFrom found bytes keys → AreRowsOf keys rows → (which : ℕ) → which < length found → All (Valid (type_at (get_or found which None))) (raws_in rows which)
+types-there found bytes keys rows read all which l =
+    have-types keys rows which (type_at (get_or found which None)) all (omega (arith, l, type-count found bytes keys read))
+    (sym (ap (λ ts. get_or ts which null_type) read.types ∙ get_or-map type_at found which None null_type l))
 
-cells-by : (codes bytes : List ℕ) (keys : RowKeys) (rows : List (Vec Scalar Global)) (which : ℕ) → AreReadFrom codes bytes keys → AreRowsOf keys rows → AreCellsBy codes bytes which keys.bytes.now keys.offsets.now (map content (raws_in rows which))
-cells-by codes bytes keys rows which read all =
-    subst (λ os. AreCellsOf os (as_type_trees (types_of_codes codes)) which keys.bytes.now keys.offsets.now (map content (raws_in rows which))) read.options'
+cells-by : (found : List (Option Kind)) (bytes : List ℕ) (keys : RowKeys) (rows : List (Vec Scalar Global)) (which : ℕ) → AreReadFrom found bytes keys → AreRowsOf keys rows → AreCellsBy found bytes which keys.bytes.now keys.offsets.now (map content (raws_in rows which))
+cells-by found bytes keys rows which read all =
+    subst (λ os. AreCellsOf os (as_type_trees (types_of_kinds found)) which keys.bytes.now keys.offsets.now (map content (raws_in rows which))) read.options'
     (subst (λ ts. AreCellsOf keys.options.now (as_type_trees ts) which keys.bytes.now keys.offsets.now (map content (raws_in rows which))) read.types (cells-of keys rows which all))
 
 -- ---- the answer
 
 -- the cells of the column of this number
-has-cells : (codes bytes : List ℕ) (keys : RowKeys) (rows : List (Vec Scalar Global)) (which : ℕ) (kind : Kind) → AreReadFrom codes bytes keys → AreRowsOf keys rows → kind_at (slice_index codes which) ≡ Some kind
-    → HasCells codes bytes which keys.bytes.now keys.offsets.now kind (map content (raws_in rows which))
-has-cells codes bytes keys rows which kind read all is = record { kind_is = is; cells_are = cells-by codes bytes keys rows which read all }
+has-cells : (found : List (Option Kind)) (bytes : List ℕ) (keys : RowKeys) (rows : List (Vec Scalar Global)) (which : ℕ) (kind : Kind) → AreReadFrom found bytes keys → AreRowsOf keys rows → get_or found which None ≡ Some kind
+    → HasCells found bytes which keys.bytes.now keys.offsets.now kind (map content (raws_in rows which))
+has-cells found bytes keys rows which kind read all is = record { kind_is = is; cells_are = cells-by found bytes keys rows which read all }
 
-pub columns-given : (codes bytes : List ℕ) (keys : RowKeys) (rows : List (Vec Scalar Global)) (old between new : List ColumnBuffers) → AreReadFrom codes bytes keys → AreRowsOf keys rows → length old ≡ length codes
-    → AreCountedIn codes rows (length codes) old between → AreWrittenIn codes rows (length codes) between new → AreColumnsOfKeys codes bytes keys.bytes.now keys.offsets.now old new
-columns-given codes bytes keys rows old between new read all counts counted written = record {
+pub columns-given : (found : List (Option Kind)) (bytes : List ℕ) (keys : RowKeys) (rows : List (Vec Scalar Global)) (old between new : List ColumnBuffers) → AreReadFrom found bytes keys → AreRowsOf keys rows → length old ≡ length found
+    → AreCountedIn found rows (length found) old between → AreWrittenIn found rows (length found) between new → AreColumnsOfKeys found bytes keys.bytes.now keys.offsets.now old new
+columns-given found bytes keys rows old between new read all counts counted written = record {
   types = read.sound;
   count = counts;
   each = λ which d l.
@@ -92,46 +92,22 @@ columns-given codes bytes keys rows old between new read all counts counted writ
       record {
         kind = one.0;
         cells = map content (raws_in rows which);
-        has = has-cells codes bytes keys rows which one.0 read all one.1;
+        has = has-cells found bytes keys rows which one.0 read all one.1;
         written = written-before one.0 (map content (raws_in rows which)) _ (get_or old which d) (get_or between which d) (get_or new which d) before.2 one.2;
       };
 }
 
-pub counts-given : (codes bytes : List ℕ) (keys : RowKeys) (rows : List (Vec Scalar Global)) (old new : List ColumnBuffers) → AreReadFrom codes bytes keys → AreRowsOf keys rows → AreCountedIn codes rows (length codes) old new
-    → AreCountsOfKeys codes bytes keys.bytes.now keys.offsets.now old new
-counts-given codes bytes keys rows old new read all counted which d l =
+pub counts-given : (found : List (Option Kind)) (bytes : List ℕ) (keys : RowKeys) (rows : List (Vec Scalar Global)) (old new : List ColumnBuffers) → AreReadFrom found bytes keys → AreRowsOf keys rows → AreCountedIn found rows (length found) old new
+    → AreCountsOfKeys found bytes keys.bytes.now keys.offsets.now old new
+counts-given found bytes keys rows old new read all counted which d l =
     let one = counted.each which d l in
-    record { kind = one.0; cells = map content (raws_in rows which); has = has-cells codes bytes keys rows which one.0 read all one.1; counted = one.2 }
+    record { kind = one.0; cells = map content (raws_in rows which); has = has-cells found bytes keys rows which one.0 read all one.1; counted = one.2 }
 
 -- ---- the refusals
 
-pub types-refused : (codes bytes keys offsets : List ℕ) (columns : List ColumnBuffers) (e : KeysError) → length columns ≡ length codes → AreTypesError codes bytes e → IsRefusal codes bytes keys offsets columns e
-types-refused codes bytes keys offsets columns OutOfMemory n h = (h, n)
-types-refused codes bytes keys offsets columns WrongLength n h = inl h
-types-refused codes bytes keys offsets columns (UnknownKind k) n h = ((h.0, n), h)
-types-refused codes bytes keys offsets columns (BadOptions k) n h = ((h.0, n), h)
-types-refused codes bytes keys offsets columns (BadOffsets k) n h = absurd h
-types-refused codes bytes keys offsets columns (BadBytes k) n h = absurd h
-types-refused codes bytes keys offsets columns BufferTooSmall n h = absurd h
-
-first-by : (codes bytes : List ℕ) (keys : RowKeys) (e : KeysError) → AreReadFrom codes bytes keys → IsFirstError keys.options.now (types_in keys) keys.bytes.now keys.offsets.now e
-    → IsFirstError (map options_in bytes) (as_type_trees (types_of_codes codes)) keys.bytes.now keys.offsets.now e
-first-by codes bytes keys e read first =
-    subst (λ os. IsFirstError os (as_type_trees (types_of_codes codes)) keys.bytes.now keys.offsets.now e) read.options'
-    (subst (λ ts. IsFirstError keys.options.now (as_type_trees ts) keys.bytes.now keys.offsets.now e) read.types first)
-
-pub keys-refused : (codes bytes : List ℕ) (keys : RowKeys) (columns : List ColumnBuffers) (e : KeysError) → AreReadFrom codes bytes keys → length columns ≡ length codes → Refuses keys e → IsRefusal codes bytes keys.bytes.now keys.offsets.now columns e
-keys-refused codes bytes keys columns OutOfMemory read n h = (read.sound.counts, n)
-keys-refused codes bytes keys columns WrongLength read n h = absurd h.cause
-keys-refused codes bytes keys columns (UnknownKind k) read n h = absurd h.cause
-keys-refused codes bytes keys columns (BadOptions k) read n h = absurd h.cause
-keys-refused codes bytes keys columns BufferTooSmall read n h = absurd h.cause
-keys-refused codes bytes keys columns (BadOffsets k) read n h = ((read.sound.counts, n), read.sound, first-by codes bytes keys (BadOffsets k) read h)
-keys-refused codes bytes keys columns (BadBytes k) read n h = ((read.sound.counts, n), read.sound, first-by codes bytes keys (BadBytes k) read h)
-
-pub buffer-lacks : (codes bytes : List ℕ) (keys : RowKeys) (rows : List (Vec Scalar Global)) (old new : List ColumnBuffers) → AreReadFrom codes bytes keys → AreRowsOf keys rows → length old ≡ length codes → AreCountedIn codes rows (length codes) old new
-    → LackSpace codes rows (length codes) new → IsRefusal codes bytes keys.bytes.now keys.offsets.now old BufferTooSmall
-buffer-lacks codes bytes keys rows old new read all n counted lack = (
+pub buffer-lacks : (found : List (Option Kind)) (bytes : List ℕ) (keys : RowKeys) (rows : List (Vec Scalar Global)) (old new : List ColumnBuffers) → AreReadFrom found bytes keys → AreRowsOf keys rows → length old ≡ length found → AreCountedIn found rows (length found) old new
+    → LackSpace found rows (length found) new → IsRefusal found bytes keys.bytes.now keys.offsets.now old BufferTooSmall
+buffer-lacks found bytes keys rows old new read all n counted lack = (
   (read.sound.counts, n),
   read.sound,
   record {
@@ -139,7 +115,7 @@ buffer-lacks codes bytes keys rows old new read all n counted lack = (
     within = lack.within;
     kind = lack.kind;
     cells = map content (raws_in rows lack.which);
-    has = has-cells codes bytes keys rows lack.which lack.kind read all lack.is;
+    has = has-cells found bytes keys rows lack.which lack.kind read all lack.is;
     lacks = λ d.
         let one = counted.each lack.which d lack.within in
         let same : one.0 ≡ lack.kind = same-kind _ _ _ one.1 lack.is in
@@ -148,7 +124,22 @@ buffer-lacks codes bytes keys rows old new read all n counted lack = (
   },
 )
 
--- a refusal that is passed on
-pub passed-on : {X : Type 0} (r : Result X KeysError) (e : KeysError) (P : KeysError → Type 0) → IsErr r × IsErrAnd r (λ f. f ≡ e) → P e → IfErr r P
-passed-on (Ok n) e P h w = tt
-passed-on (Err f) e P h w = subst P (sym h.1) w
+pub value-lacks : (found : List (Option Kind)) (bytes : List ℕ) (keys : RowKeys) (rows : List (Vec Scalar Global)) (columns : List ColumnBuffers) (e : KeysError) → AreReadFrom found bytes keys → AreRowsOf keys rows → length columns ≡ length found → IsNoValueIn found rows e
+    → IsRefusal found bytes keys.bytes.now keys.offsets.now columns e
+value-lacks found bytes keys rows columns (NotAValue column row) read all n h = (
+  (read.sound.counts, n),
+  read.sound,
+  record {
+    within = h.0;
+    kind = h.2.0;
+    cells = map content (raws_in rows column);
+    has = has-cells found bytes keys rows column h.2.0 read all h.2.1;
+    first = h.2.2;
+    before = λ which other l is. (
+      map content (raws_in rows which),
+      has-cells found bytes keys rows which other read all is,
+      subst (AreStored other (map content (raws_in rows which))) (sym (raws-count rows which)) (h.1 which other l is),
+    );
+  },
+)
+value-lacks found bytes keys rows columns _ read all n h = absurd h

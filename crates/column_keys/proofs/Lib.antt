@@ -10,6 +10,7 @@ mod NumberSteps
 mod RowLaws
 mod RowSteps
 mod RowsRead
+mod StoredSteps
 mod StringSteps
 mod TableLaws
 mod TableSteps

@@ -15,7 +15,7 @@ use Rattle.vortex_value.specs.declared.scalars.Scalar.{Scalar}
 use Rattle.column_keys.specs.Cells.{AreCellsOf, AreRowsOf, HaveColumn, IsCellAt, IsRowOf, count_in, raws_in, types_in}
 use Rattle.column_keys.specs.Errors.{IsRowReadError, Refuses}
 use Rattle.column_keys.specs.declared.errors.KeysError.{KeysError}
-use Rattle.column_keys.specs.declared.errors.KeysError.TheVariants.{BadBytes, BadOffsets, BadOptions, BufferTooSmall, OutOfMemory, UnknownKind, WrongLength}
+use Rattle.column_keys.specs.declared.errors.KeysError.TheVariants.{BadBytes, BadOffsets, BadOptions, BufferTooSmall, NotAValue, OutOfMemory, UnknownKind, WrongLength}
 use Rattle.column_keys.specs.declared.keys.RowKeys.{RowKeys}
 use Rattle.column_keys.proofs.RowLaws.{content-there, value-there, values-count}
 
@@ -56,6 +56,7 @@ refused-by keys row rows OutOfMemory l all why = tt
 refused-by keys row rows WrongLength l all why = absurd why
 refused-by keys row rows (UnknownKind k) l all why = absurd why
 refused-by keys row rows (BadOptions k) l all why = absurd why
+refused-by keys row rows (NotAValue k r) l all why = absurd why
 refused-by keys row rows BufferTooSmall l all why = absurd why
 refused-by keys row rows (BadOffsets k) l all why = record { row = row; within = l; before = all.some; cause = why }
 refused-by keys row rows (BadBytes k) l all why = record { row = row; within = l; before = all.some; cause = why }

@@ -1,18 +1,24 @@
 -- The way from columns to keys and back, of columns that have keys.
-use Rattle.std.proofs.Common.{◌≡◌, ◌∙◌, ℕ, suc, ◌<◌, ℤ, pos, negsuc, List, [], ◌∷◌, length, map, get_or, refl, sym, subst, arith, Option, None, Some, slice_get}
+use Rattle.std.proofs.Common.{◌≡◌, ◌∙◌, ℕ, suc, ◌<◌, ℤ, pos, negsuc, Bool, true, false, if◌then◌else◌, codes, nat_le, List, [], ◌∷◌, length, map, get_or, refl, sym, subst, arith, Option, None, Some, slice_get}
 use Rattle.std.proofs.lemmas.List.{get_or-map, length-map}
 use Rattle.std.proofs.lemmas.Option.{slice_get_within}
 use Rattle.arrow_columns.specs.Checked.{AreRowsOf}
-use Rattle.arrow_columns.specs.Columns.{rows_in}
-use Rattle.arrow_columns.specs.Kinds.{kind_at}
+use Rattle.arrow_columns.specs.Columns.{kind_in, rows_in}
 use Rattle.arrow_columns.specs.Spans.{AreBytes}
 use Rattle.arrow_columns.specs.declared.columns.Column.{Column}
 use Rattle.arrow_columns.specs.declared.kinds.Kind.{Kind}
-use Rattle.arrow_columns.specs.declared.kinds.Kind.TheVariants.{Binary, Boolean, Integer, LargeBinary, LargeUtf8, Null, Utf8}
+use Rattle.arrow_columns.specs.declared.kinds.Kind.TheVariants.{Binary, Boolean, Integer, LargeBinary, LargeUtf8, Logical, Null, Utf8}
+use Rattle.arrow_columns.specs.declared.formats.Format.{Format}
+use Rattle.arrow_columns.specs.declared.formats.Format.TheVariants as formats
 use Rattle.arrow_columns.specs.declared.tested_rows.Rows.{Rows}
 use Rattle.column_cells.specs.Contents.{contents_of_column}
 use Rattle.column_cells.specs.Laws.{ContentsAreOfType, HasBytes, IsOfType}
-use Rattle.column_cells.specs.Types.{type_at, type_of_column}
+use Rattle.column_cells.specs.Types.{type_at, type_of_column, type_of_format}
+use Rattle.logical_scalars.specs.Stored.{storage_tree}
+use Rattle.logical_types.specs.declared.extensions.StorageType.TheVariants as storages
+use Rattle.logical_types.specs.declared.times.TimeUnit.TheVariants.{Seconds, Milliseconds, Microseconds, Nanoseconds}
+use Rattle.vortex_dtype.specs.TypeTree.{extension_type}
+use Rattle.vortex_dtype.specs.declared.nullability.Nullability.TheVariants.{Nullable}
 use Rattle.vortex_dtype.specs.TypeOf.{as_type_trees}
 use Rattle.vortex_dtype.specs.declared.ptype.PType.{PType}
 use Rattle.vortex_dtype.specs.declared.ptype.PType.TheVariants as types
@@ -49,6 +55,51 @@ whole-held types.I32 (negsuc n) h = omega (arith, h.sfits)
 whole-held types.I64 (pos n) h = omega (arith, h.sfits)
 whole-held types.I64 (negsuc n) h = omega (arith, h.sfits)
 
+decimal-held : (b : Bool) (id metadata : List ℕ) (l : PType) (z : ℤ) → Valid (extension_type id metadata (storage_tree (if b then storages.I64 else storages.Bytes) Nullable)) (raw_integer l z) → IsWhole z
+decimal-held true id metadata l z h = whole-held types.I64 z h.1
+decimal-held false id metadata l z h = absurd h
+
+value-integer : (format : Format) (l : PType) (z : ℤ) → Valid (type_of_format format) (raw_integer l z) → IsWhole z
+value-integer formats.Float32 l z h = whole-held types.I32 z h.1
+value-integer formats.Float64 l z h = whole-held types.I64 z h.1
+value-integer formats.Date32 l z h = whole-held types.I32 z h.1
+value-integer (formats.Time Seconds) l z h = whole-held types.I32 z h.1
+value-integer (formats.Time Milliseconds) l z h = whole-held types.I32 z h.1
+value-integer (formats.Time Microseconds) l z h = whole-held types.I64 z h.1
+value-integer (formats.Time Nanoseconds) l z h = whole-held types.I64 z h.1
+value-integer (formats.Timestamp unit is_zoned) l z h = whole-held types.I64 z h.1
+value-integer (formats.Decimal width precision scale) l z h = decimal-held (nat_le precision 18) (codes "doqallin.decimal") (precision ∷ scale ∷ []) l z h
+
+decimal-tuple : (b : Bool) (id metadata : List ℕ) (vs : RawTrees) → Valid (extension_type id metadata (storage_tree (if b then storages.I64 else storages.Bytes) Nullable)) (raw_tuple vs) → ⊥
+decimal-tuple true id metadata vs h = h
+decimal-tuple false id metadata vs h = h
+
+value-tuple : (format : Format) (vs : RawTrees) → Valid (type_of_format format) (raw_tuple vs) → ⊥
+value-tuple formats.Float32 vs h = h
+value-tuple formats.Float64 vs h = h
+value-tuple formats.Date32 vs h = h
+value-tuple (formats.Time Seconds) vs h = h
+value-tuple (formats.Time Milliseconds) vs h = h
+value-tuple (formats.Time Microseconds) vs h = h
+value-tuple (formats.Time Nanoseconds) vs h = h
+value-tuple (formats.Timestamp unit is_zoned) vs h = h
+value-tuple (formats.Decimal width precision scale) vs h = decimal-tuple (nat_le precision 18) (codes "doqallin.decimal") (precision ∷ scale ∷ []) vs h
+
+decimal-union : (b : Bool) (id metadata : List ℕ) (i : ℕ) (v : RawTree) → Valid (extension_type id metadata (storage_tree (if b then storages.I64 else storages.Bytes) Nullable)) (raw_union i v) → ⊥
+decimal-union true id metadata i v h = h
+decimal-union false id metadata i v h = h
+
+value-union : (format : Format) (i : ℕ) (v : RawTree) → Valid (type_of_format format) (raw_union i v) → ⊥
+value-union formats.Float32 i v h = h
+value-union formats.Float64 i v h = h
+value-union formats.Date32 i v h = h
+value-union (formats.Time Seconds) i v h = h
+value-union (formats.Time Milliseconds) i v h = h
+value-union (formats.Time Microseconds) i v h = h
+value-union (formats.Time Nanoseconds) i v h = h
+value-union (formats.Timestamp unit is_zoned) i v h = h
+value-union (formats.Decimal width precision scale) i v h = decimal-union (nat_le precision 18) (codes "doqallin.decimal") (precision ∷ scale ∷ []) i v h
+
 integer-held : (o : Option Kind) (l : PType) (z : ℤ) → Valid (type_at o) (raw_integer l z) → IsWhole z
 integer-held (Some (Integer kind)) l z h = whole-held _ z h.1
 integer-held None l z h = absurd h
@@ -58,6 +109,7 @@ integer-held (Some LargeUtf8) l z h = absurd h
 integer-held (Some Binary) l z h = absurd h
 integer-held (Some LargeBinary) l z h = absurd h
 integer-held (Some Null) l z h = absurd h
+integer-held (Some (Logical format)) l z h = value-integer format l z h
 
 no-tuple : (o : Option Kind) (vs : RawTrees) → Valid (type_at o) (raw_tuple vs) → ⊥
 no-tuple None vs h = h
@@ -68,6 +120,7 @@ no-tuple (Some Utf8) vs h = h
 no-tuple (Some LargeUtf8) vs h = h
 no-tuple (Some Binary) vs h = h
 no-tuple (Some LargeBinary) vs h = h
+no-tuple (Some (Logical format)) vs h = value-tuple format vs h
 
 no-union : (o : Option Kind) (i : ℕ) (v : RawTree) → Valid (type_at o) (raw_union i v) → ⊥
 no-union None i v h = h
@@ -78,6 +131,7 @@ no-union (Some Utf8) i v h = h
 no-union (Some LargeUtf8) i v h = h
 no-union (Some Binary) i v h = h
 no-union (Some LargeBinary) i v h = h
+no-union (Some (Logical format)) i v h = value-union format i v h
 
 value-held : (o : Option Kind) (v : RawTree) → Valid (type_at o) v → HasBytes (content v) → IsHeld (content v)
 value-held o absent h b = tt
@@ -92,7 +146,7 @@ value-held o (raw_variant t v) h b = tt
 content-of : (column : Column) (c : Content) → IsOfType (type_of_column column) c → IsContentOf (type_of_column column) c
 content-of column c it = record {
   value = it.value;
-  of_type = record { valid = it.valid; held = value-held (kind_at column.kind) it.value it.valid (subst HasBytes (sym it.is) it.bytes) };
+  of_type = record { valid = it.valid; held = value-held (kind_in column) it.value it.valid (subst HasBytes (sym it.is) it.bytes) };
   is = it.is;
 }
 
@@ -115,7 +169,7 @@ within columns k column e = slice_get_within columns k column e
 
 plain-columns : (columns : List Column) → HaveNoVariant (as_type_trees (map type_of_column columns))
 plain-columns [] = tt
-plain-columns (column ∷ columns) = (plain-kind (kind_at column.kind), plain-columns columns)
+plain-columns (column ∷ columns) = (plain-kind (kind_in column), plain-columns columns)
 
 pub tables-come-back : KeysAreApart → ValuesHaveNoTyped → ContentsAreOfType → TablesComeBack
 tables-come-back apart plain law columns options offsets bytes which d table keys ends l =

@@ -19,7 +19,12 @@ use Rattle.arrow_columns.specs.declared.tested_rows.BooleanRows.{BooleanRows}
 use Rattle.arrow_columns.specs.declared.tested_rows.ByteRows.{ByteRows}
 use Rattle.arrow_columns.specs.declared.tested_rows.IntegerRows.{IntegerRows}
 use Rattle.arrow_columns.specs.declared.tested_rows.Rows.{Rows}
-use Rattle.arrow_columns.specs.declared.tested_rows.Rows.TheVariants.{Booleans, Bytes, Integers, Strings}
+use Rattle.arrow_columns.specs.declared.tested_rows.Rows.TheVariants.{Booleans, Bytes, Integers, Strings, Values}
+use Rattle.arrow_columns.specs.Columns.{item_cells, logical_cells}
+use Rattle.arrow_columns.specs.Formats.{IsValueOf, items_of}
+use Rattle.arrow_columns.specs.declared.tested_rows.ItemRows.{ItemRows}
+use Rattle.arrow_columns.specs.declared.tested_rows.LogicalRows.{LogicalRows}
+use Rattle.column_cells.specs.Contents.{stored_content}
 use Rattle.vortex_value.specs.Values.Content.{Content, null, string, text, truth, whole}
 use Rattle.vortex_row.specs.Held.{IsWhole}
 use Rattle.column_cells.specs.Contents.{HasTexts, content_or_null, contents_of_rows}
@@ -85,7 +90,7 @@ signed32 : (z : ℤ) → FitsSigned w32 z → IsWhole z
 signed32 (pos n) h = let s = h.sfits in omega arith
 signed32 (negsuc n) h = let s = h.sfits in omega arith
 
-signed64 : (z : ℤ) → FitsSigned w64 z → IsWhole z
+pub signed64 : (z : ℤ) → FitsSigned w64 z → IsWhole z
 signed64 (pos n) h = let s = h.sfits in omega arith
 signed64 (negsuc n) h = let s = h.sfits in omega arith
 
@@ -147,6 +152,27 @@ string-got all rows row o c e got same = content-got (content_or_null text) _ ro
 
 pub byte-got : (all : Rows) (rows : ByteRows) (row : ℕ) (o : Option (List ℕ)) (c : Content) → all ≡ Bytes rows → slice_get (byte_cells rows.width rows.column) row ≡ Some o → c ≡ content_or_null string o → c ≡ get_or (contents_of_rows all) row null
 byte-got all rows row o c e got same = content-got (content_or_null string) _ row o c got same ∙ ap (λ r. get_or (contents_of_rows r) row null) (sym e)
+
+pub value-within : (all : Rows) (rows : LogicalRows) (numbers : ItemRows) (row : ℕ) → all ≡ Values rows → numbers.column ≡ rows.column → row < length (contents_of_rows all) → row < numbers.column.length
+value-within all rows numbers row e same h =
+    let inside : row < rows.column.length = cells-count _ _ _ _ row (subst (λ r. row < length (contents_of_rows r)) e h) in
+    subst (λ c. row < c.length) (sym same) inside
+
+-- the cell of a row, by the numbers
+value-cell : (rows : LogicalRows) (numbers : ItemRows) (row : ℕ) (o : Option ℤ) → numbers.kind ≡ items_of rows.format → numbers.column ≡ rows.column → slice_get (item_cells numbers.kind numbers.column) row ≡ Some o
+    → slice_get (logical_cells rows.format rows.column) row ≡ Some o
+value-cell rows numbers row o k same got =
+    subst (λ c. slice_get (item_cells (items_of rows.format) c) row ≡ Some o) same (subst (λ kind. slice_get (item_cells kind numbers.column) row ≡ Some o) k got)
+
+pub value-valid : (all : Rows) (rows : LogicalRows) (numbers : ItemRows) (row : ℕ) (o : Option ℤ) → all ≡ Values rows → HasTexts all → numbers.kind ≡ items_of rows.format → numbers.column ≡ rows.column
+    → slice_get (item_cells numbers.kind numbers.column) row ≡ Some o → IfSome o (IsValueOf rows.format)
+value-valid all rows numbers row o e texts k same got =
+    got-holds (λ cell. IfSome cell (IsValueOf rows.format)) (logical_cells rows.format rows.column) row o (subst HasTexts e texts).1 (value-cell rows numbers row o k same got)
+
+pub value-got : (all : Rows) (rows : LogicalRows) (numbers : ItemRows) (row : ℕ) (o : Option ℤ) (c : Content) → all ≡ Values rows → numbers.kind ≡ items_of rows.format → numbers.column ≡ rows.column
+    → slice_get (item_cells numbers.kind numbers.column) row ≡ Some o → c ≡ content_or_null (stored_content rows.format) o → c ≡ get_or (contents_of_rows all) row null
+value-got all rows numbers row o c e k kept got same =
+    content-got (content_or_null (stored_content rows.format)) _ row o c (value-cell rows numbers row o k kept got) same ∙ ap (λ r. get_or (contents_of_rows r) row null) (sym e)
 
 pub string-valid : (all : Rows) (rows : ByteRows) (row : ℕ) (o : Option (List ℕ)) → all ≡ Strings rows → HasTexts all → slice_get (byte_cells rows.width rows.column) row ≡ Some o → IfSome o (λ bytes. IsUtf8 bytes)
 string-valid all rows row o e h got = text-valid (byte_cells rows.width rows.column) row o (subst HasTexts e h) got

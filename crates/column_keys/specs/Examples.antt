@@ -1,5 +1,6 @@
 -- Worked cases of the definitions, each a theorem.
-use Rattle.std.specs.Prelude.{◌≡◌, ℕ, pos, negsuc, true, false, List, [], ◌∷◌, refl}
+use Rattle.std.specs.Prelude.{◌≡◌, ℕ, pos, negsuc, true, false, List, [], ◌∷◌, map, refl}
+use Rattle.arrow_columns.specs.Kinds.{kind_at}
 use Rattle.arrow_columns.specs.declared.kinds.IntegerKind.TheVariants.{I16}
 use Rattle.arrow_columns.specs.declared.kinds.Kind.TheVariants.{Boolean, Integer, Null, Utf8}
 use Rattle.vortex_dtype.specs.TypeTree.{integer_type, null_type, utf8_type}
@@ -10,7 +11,7 @@ use Rattle.vortex_row.specs.declared.options.SortOptions.{SortOptions}
 use Rattle.vortex_value.specs.Values.Content.{null, text, truth, whole}
 use Rattle.column_keys.specs.Cells.{key_at, key_count}
 use Rattle.column_keys.specs.Layout.{contents_written, offsets_length, values_length}
-use Rattle.column_keys.specs.Types.{types_of_codes}
+use Rattle.column_keys.specs.Types.{types_of_kinds}
 
 -- the keys of the rows (-1, "a") and (7, null), the strings by greater ones first and nulls last
 abbrev ascending : SortOptions
@@ -35,10 +36,10 @@ second_row : key_at two ends 1 ≡ row_key (ascending ∷ descending ∷ []) (wh
 second_row = refl
 
 -- their columns: an i16 and a string, by the codes 5 and 9
-two_types : types_of_codes (5 ∷ 9 ∷ []) ≡ integer_type types.I16 Nullable ∷ utf8_type Nullable ∷ []
+two_types : types_of_kinds (map kind_at (5 ∷ 9 ∷ [])) ≡ integer_type types.I16 Nullable ∷ utf8_type Nullable ∷ []
 two_types = refl
 
-no_kind : types_of_codes (14 ∷ []) ≡ null_type ∷ []
+no_kind : types_of_kinds (map kind_at (32 ∷ [])) ≡ null_type ∷ []
 no_kind = refl
 
 integers : contents_written (Integer I16) (3 ∷ []) (255 ∷ 255 ∷ 7 ∷ 0 ∷ []) [] 2 ≡ whole (negsuc 0) ∷ whole (pos 7) ∷ []

@@ -9,3 +9,4 @@ pub mod Read
 pub mod Tables
 pub mod Types
 pub mod Words
+pub mod Plain

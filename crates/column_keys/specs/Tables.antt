@@ -73,9 +73,9 @@ IsErrorAt k column byte count (Unreadable place fault) = (place ≡ k) × IsErro
 IsErrorAt k column byte count (BadOptions place) = (place ≡ k) × ((rows : Rows) × AreRowsOf column rows) × ¬ (byte < 4)
 IsErrorAt k column byte count (WrongLength place) = (place ≡ k) × ((rows : Rows) × AreRowsOf column rows) × (byte < 4) × ¬ (length (contents_of_column column) ≡ count)
 
--- why a table has no keys: of the columns the first that is not sound, if there are as many options. Memory is asked only then.
+-- why a table has no keys: of the columns the first that is not sound, if there are as many options. Memory lacks only if each is sound.
 abbrev pub IsTableError : List Column → List ℕ → TableError → Type 0
-IsTableError columns options OutOfMemory = length options ≡ length columns
+IsTableError columns options OutOfMemory = (length options ≡ length columns) × AreSoundBefore columns options (length columns)
 IsTableError columns options WrongCount = length options ≢ length columns
 IsTableError columns options fault =
     (length options ≡ length columns) × HasFirstError (IsSoundAt options (rows_in columns)) (λ k column. IsErrorAt k column (slice_index options k) (rows_in columns) fault) columns

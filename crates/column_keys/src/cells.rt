@@ -1,10 +1,13 @@
 //! The cells of a column in rows, and what a cell has to be written.
 
 ghost use Rattle.std.specs.Prelude.{◌≡◌, ◌<◌, length, slice_index_or};
-ghost use Rattle.column_keys.specs.Words.{HaveColumn, Nullable, Valid, absent, bytes_in, integer_type, is_present};
+ghost use Rattle.column_keys.specs.Words.{FitsItem, HasContentOf, HaveColumn, IsNumberIn, IsValueOf, Logical, Nullable};
+ghost use Rattle.column_keys.specs.Words.{Valid, absent, bytes_in, integer_type, is_present, items_of};
 ghost use Rattle.column_keys.specs.Words.{number_in, ptype_of, raws_in, scalar_content, scalar_raw, truth_in};
 ghost use Rattle.column_keys.specs.Words.{whole_of};
 
+use arrow_columns::Format;
+use column_items::stored_number;
 use vortex_dtype::PType;
 use vortex_pvalue::PValue;
 use vortex_value::{Scalar, ScalarValue};
@@ -39,6 +42,22 @@ pub(crate) fn number_or_zero(cell: &Scalar, ptype: PType) -> PValue
         Some(ScalarValue::Primitive(number)) => *number,
         _ => PValue::zero(&ptype),
     }
+}
+
+/// The number that a cell stores as a value of the format, or 0 for a null.
+pub(crate) fn stored_or_zero(cell: &Scalar, format: Format) -> i128
+    requires { HasContentOf (Logical format) (scalar_content cell.now) }
+    ensures number { IsNumberIn format (scalar_content cell.now) result }
+    ensures value { IsValueOf format result }
+    ensures fits { FitsItem (items_of format) result }
+{
+    let Some(value) = &cell.value else {
+        return 0;
+    };
+    let Some(number) = stored_number(format, value) else {
+        unreachable!()
+    };
+    number
 }
 
 /// The truth value of a cell, or false if it has none.

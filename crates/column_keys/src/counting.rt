@@ -18,7 +18,7 @@ pub(crate) fn offsets_length(kind: Kind, count: usize) -> usize
 {
     match kind {
         Kind::Utf8 | Kind::LargeUtf8 | Kind::Binary | Kind::LargeBinary => count + 1,
-        Kind::Integer(_) | Kind::Boolean | Kind::Null => 0,
+        Kind::Integer(_) | Kind::Boolean | Kind::Null | Kind::Logical(_) => 0,
     }
 }
 
@@ -47,6 +47,7 @@ fn values_length(rows: &[Vec<Scalar>], which: usize, kind: Kind) -> usize
             strings_length(rows, which)
         }
         Kind::Null => 0,
+        Kind::Logical(format) => rows.len().saturating_mul(format.items().width()),
     }
 }
 
@@ -77,7 +78,7 @@ fn count_column(rows: &[Vec<Scalar>], which: usize, kind: Kind, column: &mut Col
 
 /// Says of each column how many bytes its values have. Answers whether all buffers suffice.
 pub(crate) fn count_columns(
-    kinds: &[u8],
+    kinds: &[Option<Kind>],
     rows: &[Vec<Scalar>],
     columns: &mut [ColumnBuffers],
 ) -> bool

@@ -1,14 +1,18 @@
 //! The columns that keys of rows give.
 
-ghost use Rattle.std.specs.Prelude.{◌≡◌, ◌≢◌, IfErr, IfOk, OnOk};
-ghost use Rattle.column_keys.specs.Words.{AreColumnsOfKeys, AreCountsOfKeys, BufferTooSmall, IsRefusal};
+ghost use Rattle.std.specs.Prelude.{◌≡◌, ◌≢◌, IfErr, OnOk, length, map};
+ghost use Rattle.column_keys.specs.Words.{AreColumnsOfKeys, AreCountsOfKeys, BufferTooSmall, HaveTypes, IsRefusal};
+ghost use Rattle.column_keys.specs.Words.{kind_at, kind_of_code};
 
 use crate::buffers::ColumnBuffers;
 use crate::counting::count_columns;
 use crate::errors::KeysError;
 use crate::keys::{RowKeys, read_rows};
-use crate::types::read_types;
+use crate::stored::expect_values;
+use crate::types::{expect_options, kinds_of_codes, kinds_of_typed_codes, read_types};
 use crate::writing::write_columns;
+use arrow_columns::Kind;
+use column_items::KindCode;
 use std::alloc::Global;
 
 /// Writes the columns of the rows that keys were made of, in Arrow's layout: a bit for each row, 0
@@ -22,11 +26,13 @@ use std::alloc::Global;
 /// - `WrongLength` exactly if there are not as many options as kinds, or not as many buffers.
 /// - `BadOptions` for the first byte above 3, and then `UnknownKind` for the first code of no kind.
 /// - `BadOffsets` or `BadBytes` for the first key that is none of the kinds.
+/// - `NotAValue` for the first column in which a row has no value of its logical type, and the first
+///   such row.
 /// - `BufferTooSmall` if a buffer is too short: the counts say what is wanted, and nothing else is
 ///   written.
 ///
-/// `OutOfMemory` may come in place of all of these but the first. Memory is asked for the types, and
-/// for the values of all rows.
+/// `OutOfMemory` may come in place of the last four of these. Memory is asked for the types, and for the
+/// values of all rows.
 pub fn columns_of_keys(
     alloc: Global,
     kinds: &[u8],
@@ -35,6 +41,59 @@ pub fn columns_of_keys(
     bytes: &[u8],
     columns: &mut [ColumnBuffers],
 ) -> Result<(), KeysError>
+    ensures columns { OnOk result (AreColumnsOfKeys (map kind_at kinds.now) options.now bytes.now
+        offsets.now columns.old columns.new) }
+    ensures refused { IfErr result
+        (IsRefusal (map kind_at kinds.now) options.now bytes.now offsets.now columns.old) }
+    ensures counted { IfErr result (λ e. e ≡ BufferTooSmall
+        → AreCountsOfKeys (map kind_at kinds.now) options.now bytes.now offsets.now columns.old columns.new) }
+    ensures kept { IfErr result (λ e. e ≢ BufferTooSmall → columns.new ≡ columns.old) }
+{
+    if options.len() != kinds.len() || columns.len() != kinds.len() {
+        return Err(KeysError::WrongLength);
+    }
+    expect_options(options)?;
+    let found = kinds_of_codes(alloc, kinds)?;
+    columns_of_kinds(alloc, found.as_slice(), options, offsets, bytes, columns)
+}
+
+/// The same of any kinds, decimals too.
+pub fn columns_of_typed_keys(
+    alloc: Global,
+    kinds: &[KindCode],
+    options: &[u8],
+    offsets: &[u64],
+    bytes: &[u8],
+    columns: &mut [ColumnBuffers],
+) -> Result<(), KeysError>
+    ensures columns { OnOk result (AreColumnsOfKeys (map kind_of_code kinds.now) options.now bytes.now
+        offsets.now columns.old columns.new) }
+    ensures refused { IfErr result
+        (IsRefusal (map kind_of_code kinds.now) options.now bytes.now offsets.now columns.old) }
+    ensures counted { IfErr result (λ e. e ≡ BufferTooSmall
+        → AreCountsOfKeys (map kind_of_code kinds.now) options.now bytes.now offsets.now columns.old
+        columns.new) }
+    ensures kept { IfErr result (λ e. e ≢ BufferTooSmall → columns.new ≡ columns.old) }
+{
+    if options.len() != kinds.len() || columns.len() != kinds.len() {
+        return Err(KeysError::WrongLength);
+    }
+    expect_options(options)?;
+    let found = kinds_of_typed_codes(alloc, kinds)?;
+    columns_of_kinds(alloc, found.as_slice(), options, offsets, bytes, columns)
+}
+
+/// The same of kinds that were found, and of options that were tested.
+fn columns_of_kinds(
+    alloc: Global,
+    kinds: &[Option<Kind>],
+    options: &[u8],
+    offsets: &[u64],
+    bytes: &[u8],
+    columns: &mut [ColumnBuffers],
+) -> Result<(), KeysError>
+    requires lengths { length columns.old ≡ length kinds.now }
+    requires types { HaveTypes kinds.now options.now }
     ensures columns { OnOk result (AreColumnsOfKeys kinds.now options.now bytes.now offsets.now
         columns.old columns.new) }
     ensures refused { IfErr result (IsRefusal kinds.now options.now bytes.now offsets.now columns.old) }
@@ -42,9 +101,6 @@ pub fn columns_of_keys(
         → AreCountsOfKeys kinds.now options.now bytes.now offsets.now columns.old columns.new) }
     ensures kept { IfErr result (λ e. e ≢ BufferTooSmall → columns.new ≡ columns.old) }
 {
-    if columns.len() != kinds.len() {
-        return Err(KeysError::WrongLength);
-    }
     let types = read_types(alloc, kinds, options)?;
     let keys = RowKeys {
         dtypes: &types.dtypes,
@@ -53,9 +109,11 @@ pub fn columns_of_keys(
         bytes,
     };
     let rows = read_rows(alloc, &keys)?;
-    if !count_columns(kinds, &rows, columns) {
+    let rows = rows.as_slice();
+    expect_values(kinds, rows)?;
+    if !count_columns(kinds, rows, columns) {
         return Err(KeysError::BufferTooSmall);
     }
-    write_columns(kinds, &rows, columns);
+    write_columns(kinds, rows, columns);
     Ok(())
 }

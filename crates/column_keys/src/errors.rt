@@ -48,6 +48,8 @@ pub enum KeysError {
     /// The offset among all bytes of the first that no key of a row has there, or of the end of a
     /// key that ends too early.
     BadBytes { offset: usize },
+    /// What the key of the row has in the column is no value of the column's logical type.
+    NotAValue { column: usize, row: usize },
     /// A buffer is too short for its column.
     BufferTooSmall,
 }

@@ -28,10 +28,17 @@ pub fn options_of_byte(byte: u8) -> Option<SortOptions>
     if byte > 3 {
         return None;
     }
-    Some(SortOptions {
+    Some(options_of_bits(byte))
+}
+
+/// The options that the two low bits of a byte stand for.
+pub(crate) fn options_of_bits(byte: u8) -> SortOptions
+    ensures { result ≡ options_in byte }
+{
+    SortOptions {
         descending: byte % 2 == 1,
         nulls_first: byte / 2 % 2 == 1,
-    })
+    }
 }
 
 /// The column at a place, if it has so many rows.
@@ -66,8 +73,8 @@ fn key_column<'a>(
 ///
 /// `WrongCount` exactly if there are not as many options as columns, before all else. Then the
 /// first column with an error gives it: `Unreadable`, `BadOptions` for a byte above 3, and
-/// `WrongLength` for another number of rows than the first. `OutOfMemory` may come in place of
-/// these, but not of `WrongCount`.
+/// `WrongLength` for another number of rows than the first. `OutOfMemory` comes in place of none of
+/// these: without memory the columns are tested all the same.
 #[tactic(auto, using(crate::proofs::ColumnSteps::shown, column_cells::proofs::TableSteps::shown))]
 pub fn read_columns<'a>(
     alloc: Global,
@@ -83,10 +90,27 @@ pub fn read_columns<'a>(
         return Err(TableError::WrongCount);
     }
     let count = row_count_of(columns);
-    let mut table = Vec::with_capacity(alloc, columns.len())?;
+    let Ok(mut table) = Vec::with_capacity(alloc, columns.len()) else {
+        expect_columns(columns, options)?;
+        return Err(TableError::OutOfMemory);
+    };
     for place in 0..columns.len() {
         let column = key_column(place, columns[place], options[place], count)?;
         table.push_reserved(column);
     }
     Ok(table)
+}
+
+/// The error of the first column that has one.
+#[tactic(auto, using(column_cells::proofs::TableSteps::shown))]
+fn expect_columns(columns: &[Column], options: &[u8]) -> Result<(), TableError>
+    requires { length options.now ≡ length columns.now }
+    ensures sound { OnOk result (AreSoundBefore columns.now options.now (length columns.now)) }
+    ensures fault { IfErr result (λ fault. IsTableError columns.now options.now fault) }
+{
+    let count = row_count_of(columns);
+    for place in 0..columns.len() {
+        key_column(place, columns[place], options[place], count)?;
+    }
+    Ok(())
 }

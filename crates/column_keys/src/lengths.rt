@@ -21,6 +21,7 @@ pub(crate) fn column_keys_length(rows: &Rows, count: usize) -> usize
         Rows::Strings(rows) => cells_length(&Rows::Strings(*rows), count),
         Rows::Bytes(rows) => cells_length(&Rows::Bytes(*rows), count),
         Rows::Nulls(_) => count,
+        Rows::Values(rows) => cells_length(&Rows::Values(*rows), count),
     }
 }
 
@@ -33,7 +34,7 @@ fn cells_length(rows: &Rows, count: usize) -> usize
 {
     let mut total = 0usize;
     for row in 0..count {
-        total = total.saturating_add(plain_key_length(value_at(rows, row)));
+        total = total.saturating_add(plain_key_length(value_at(rows, row).plain()));
     }
     total
 }

@@ -15,13 +15,14 @@ mod keys;
 pub mod laws;
 mod lengths;
 mod rows;
+mod stored;
 mod table;
 mod types;
 mod values;
 mod writing;
 
 pub use buffers::ColumnBuffers;
-pub use decoding::columns_of_keys;
+pub use decoding::{columns_of_keys, columns_of_typed_keys};
 pub use errors::{KeysError, TableError};
 pub use key_columns::{KeyColumn, options_of_byte, read_columns};
 pub use table::{row_keys_length, write_row_keys};

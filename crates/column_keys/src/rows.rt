@@ -16,7 +16,7 @@ pub(crate) fn write_row(columns: &[KeyColumn], row: usize, start: usize, buffer:
     let mut place = start;
     for column in columns {
         let value = value_at(&column.rows, row);
-        place = write_plain_key(value, column.options, place, buffer);
+        place = write_plain_key(value.plain(), column.options, place, buffer);
     }
     place
 }

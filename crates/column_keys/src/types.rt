@@ -1,13 +1,16 @@
 //! What keys are keys of: the types of columns, and how each is sorted.
 
-ghost use Rattle.std.specs.Prelude.{◌≡◌, ◌≢◌, IfErr, IfOk, None, OnOk, Some, length, map};
-ghost use Rattle.column_keys.specs.Words.{AreKinds, AreOptions, AreTypesError, HaveTypes, IsKindsError};
-ghost use Rattle.column_keys.specs.Words.{IsOptionsError, kind_at, options_in, type_of, types_of_codes};
+ghost use Rattle.std.specs.Prelude.{◌≡◌, ◌≢◌, IfErr, IfOk, MatchOption, None, OnOk, Some, is_none, length, map};
+ghost use Rattle.std.specs.Prelude.{position};
+ghost use Rattle.column_keys.specs.Words.{AreKinds, AreOptions, IsFirstBadOptions, IsKindsError, IsOptionsError};
+ghost use Rattle.column_keys.specs.Words.{OutOfMemory, kind_at, kind_of_code, options_in, type_of, type_of_kind};
+ghost use Rattle.column_keys.specs.Words.{types_of_kinds};
 
 use crate::errors::KeysError;
-use crate::key_columns::options_of_byte;
+use crate::key_columns::options_of_bits;
 use arrow_columns::Kind;
 use column_cells::dtype_of;
+use column_items::KindCode;
 use std::alloc::Global;
 use vortex_dtype::DType;
 use vortex_row::SortOptions;
@@ -21,36 +24,100 @@ pub(crate) struct ColumnTypes {
     pub(crate) options: Vec<SortOptions>,
 }
 
-/// The kind with this code, which is of one.
-pub(crate) fn known_kind(code: u8) -> Kind
-    requires { kind_at code ≢ None }
-    ensures { kind_at code ≡ Some result }
+/// `BadOptions` for the first byte that stands for no options.
+pub(crate) fn expect_options(options: &[u8]) -> Result<(), KeysError>
+    ensures options { OnOk result (AreOptions options.now (length options.now)) }
+    ensures fault { IfErr result (IsOptionsError options.now) }
 {
-    match Kind::from_code(code) {
+    match first_bad_options(options) {
+        Some(column) => Err(KeysError::BadOptions { column }),
+        None => Ok(()),
+    }
+}
+
+/// The first byte that stands for no options: above 3.
+fn first_bad_options(options: &[u8]) -> Option<usize>
+    ensures { MatchOption result
+        (AreOptions options.now (length options.now)) (IsFirstBadOptions options.now) }
+{
+    options.iter().position(|byte| *byte > 3)
+}
+
+/// The kinds with these codes. `UnknownKind` for the first code of no kind, before memory is asked for.
+pub(crate) fn kinds_of_codes(alloc: Global, codes: &[u8]) -> Result<Vec<Option<Kind>>, KeysError>
+    ensures kinds { IfOk result (λ kinds. kinds.items ≡ map kind_at codes.now) }
+    ensures known { OnOk result (AreKinds (map kind_at codes.now) (length (map kind_at codes.now))) }
+    ensures fault { IfErr result (IsKindsError (map kind_at codes.now)) }
+{
+    if let Some(column) = first_unknown(codes) {
+        return Err(KeysError::UnknownKind { column });
+    }
+    let mut kinds = Vec::with_capacity(alloc, codes.len())?;
+    for place in 0..codes.len() {
+        kinds.push(Kind::from_code(codes[place]))?;
+    }
+    Ok(kinds)
+}
+
+/// The first code of no kind.
+fn first_unknown(codes: &[u8]) -> Option<usize>
+    ensures { result ≡ position (λ code. is_none (kind_at code)) codes.now }
+{
+    codes
+        .iter()
+        .position(|code| Kind::from_code(*code).is_none())
+}
+
+/// The same of codes with a precision and a scale.
+pub(crate) fn kinds_of_typed_codes(
+    alloc: Global,
+    codes: &[KindCode],
+) -> Result<Vec<Option<Kind>>, KeysError>
+    ensures kinds { IfOk result (λ kinds. kinds.items ≡ map kind_of_code codes.now) }
+    ensures known { OnOk result
+        (AreKinds (map kind_of_code codes.now) (length (map kind_of_code codes.now))) }
+    ensures fault { IfErr result (IsKindsError (map kind_of_code codes.now)) }
+{
+    if let Some(column) = first_unknown_typed(codes) {
+        return Err(KeysError::UnknownKind { column });
+    }
+    let mut kinds = Vec::with_capacity(alloc, codes.len())?;
+    for place in 0..codes.len() {
+        kinds.push(codes[place].kind())?;
+    }
+    Ok(kinds)
+}
+
+/// The first such code of no kind.
+fn first_unknown_typed(codes: &[KindCode]) -> Option<usize>
+    ensures { result ≡ position (λ code. is_none (kind_of_code code)) codes.now }
+{
+    codes.iter().position(|code| code.kind().is_none())
+}
+
+/// The kind that was found.
+pub(crate) fn known_kind(found: Option<Kind>) -> Kind
+    requires { found ≢ None }
+    ensures { found ≡ Some result }
+{
+    match found {
         Some(kind) => kind,
         None => unreachable!(),
     }
 }
 
-/// The types of the columns of these kinds, by their codes, each with its byte of options.
-///
-/// `WrongLength` exactly if there are not as many options as kinds, before all else. Then
-/// `BadOptions` for the first byte above 3, and then `UnknownKind` for the first code of no kind.
-/// `OutOfMemory` may come in place of these two.
+/// The types of the columns of these kinds, and how each is sorted by its byte of options.
 pub(crate) fn read_types(
     alloc: Global,
-    kinds: &[u8],
+    kinds: &[Option<Kind>],
     options: &[u8],
 ) -> Result<ColumnTypes, KeysError>
+    requires { AreKinds kinds.now (length kinds.now) }
     ensures types { IfOk result
-        (λ types. map type_of types.dtypes.items ≡ types_of_codes kinds.now) }
+        (λ types. map type_of types.dtypes.items ≡ types_of_kinds kinds.now) }
     ensures options { IfOk result (λ types. types.options.items ≡ map options_in options.now) }
-    ensures sound { OnOk result (HaveTypes kinds.now options.now) }
-    ensures fault { IfErr result (AreTypesError kinds.now options.now) }
+    ensures refused { IfErr result (λ e. e ≡ OutOfMemory) }
 {
-    if options.len() != kinds.len() {
-        return Err(KeysError::WrongLength);
-    }
     let options = read_options(alloc, options)?;
     let dtypes = read_kinds(alloc, kinds)?;
     Ok(ColumnTypes { dtypes, options })
@@ -59,31 +126,36 @@ pub(crate) fn read_types(
 /// The options that bytes stand for.
 fn read_options(alloc: Global, options: &[u8]) -> Result<Vec<SortOptions>, KeysError>
     ensures options { IfOk result (λ read. read.items ≡ map options_in options.now) }
-    ensures sound { OnOk result (AreOptions options.now (length options.now)) }
-    ensures fault { IfErr result (IsOptionsError options.now) }
+    ensures refused { IfErr result (λ e. e ≡ OutOfMemory) }
 {
     let mut read = Vec::with_capacity(alloc, options.len())?;
     for column in 0..options.len() {
-        match options_of_byte(options[column]) {
-            Some(one) => read.push(one)?,
-            None => return Err(KeysError::BadOptions { column }),
-        }
+        read.push(options_of_bits(options[column]))?;
     }
     Ok(read)
 }
 
-/// The types of the kinds with these codes.
-fn read_kinds(alloc: Global, kinds: &[u8]) -> Result<Vec<DType>, KeysError>
-    ensures types { IfOk result (λ read. map type_of read.items ≡ types_of_codes kinds.now) }
-    ensures kinds { OnOk result (AreKinds kinds.now (length kinds.now)) }
-    ensures fault { IfErr result (IsKindsError kinds.now) }
+/// The type of the cells of a column of the kind.
+fn kind_dtype(alloc: Global, kind: Kind) -> Result<DType, KeysError>
+    ensures made { IfOk result (λ dtype. type_of dtype ≡ type_of_kind kind) }
+    ensures refused { IfErr result (λ e. e ≡ OutOfMemory) }
+{
+    match dtype_of(alloc, kind) {
+        Ok(dtype) => Ok(dtype),
+        Err(_) => Err(KeysError::OutOfMemory),
+    }
+}
+
+/// The types of these kinds.
+fn read_kinds(alloc: Global, kinds: &[Option<Kind>]) -> Result<Vec<DType>, KeysError>
+    requires { AreKinds kinds.now (length kinds.now) }
+    ensures types { IfOk result (λ read. map type_of read.items ≡ types_of_kinds kinds.now) }
+    ensures refused { IfErr result (λ e. e ≡ OutOfMemory) }
 {
     let mut read = Vec::with_capacity(alloc, kinds.len())?;
     for column in 0..kinds.len() {
-        match Kind::from_code(kinds[column]) {
-            Some(kind) => read.push(dtype_of(kind))?,
-            None => return Err(KeysError::UnknownKind { column }),
-        }
+        let dtype = kind_dtype(alloc, known_kind(kinds[column]))?;
+        read.push(dtype)?;
     }
     Ok(read)
 }

@@ -2,10 +2,13 @@
 
 ghost use Rattle.std.specs.Prelude.{◌≡◌, ◌<◌, IfSome, IsUtf8, length, slice_index_or};
 ghost use Rattle.std.specs.Option.{option_copied};
-ghost use Rattle.column_keys.specs.Words.{HasTexts, IsWhole, content_or_null, contents_of_rows, null};
-ghost use Rattle.column_keys.specs.Words.{plain_content, string, text, truth, whole};
+ghost use Rattle.column_keys.specs.Words.{HasTexts, IsValueOf, IsWhole, cell_content, content_or_null};
+ghost use Rattle.column_keys.specs.Words.{contents_of_rows, null, plain_content, stored_content, string, text};
+ghost use Rattle.column_keys.specs.Words.{truth, whole};
 
-use arrow_columns::{Rows, items_are_bytes};
+use arrow_columns::{Format, Rows, items_are_bytes};
+use column_items::is_wide;
+use logical_types::bytes_of_decimal;
 use std::str;
 use vortex_row::PlainValue;
 
@@ -56,22 +59,61 @@ fn byte_value(cell: Option<&[u8]>) -> PlainValue<'_>
     }
 }
 
+/// A cell as its key wants it.
+#[derive(Clone, Copy)]
+pub(crate) enum CellValue<'a> {
+    /// A value that the column lends, or a number.
+    Plain(PlainValue<'a>),
+    /// A decimal of more than 18 digits, by the 16 bytes that store it.
+    Wide([u8; 16]),
+}
+
+impl CellValue<'_> {
+    /// The cell as a plain value.
+    #[inline(always)]
+    pub(crate) fn plain(&self) -> PlainValue<'_>
+        ensures { plain_content result ≡ cell_content self.now }
+    {
+        match self {
+            CellValue::Plain(value) => *value,
+            CellValue::Wide(bytes) => PlainValue::Binary(bytes),
+        }
+    }
+}
+
+/// A value of a format: by what stores it.
+#[inline(always)]
+fn logical_value(format: Format, cell: Option<i128>) -> CellValue<'static>
+    requires { IfSome cell (IsValueOf format) }
+    ensures { cell_content result ≡ content_or_null (stored_content format) cell }
+{
+    let Some(number) = cell else {
+        return CellValue::Plain(PlainValue::Null);
+    };
+    if is_wide(format) {
+        CellValue::Wide(bytes_of_decimal(number))
+    } else {
+        CellValue::Plain(integer_value(Some(number)))
+    }
+}
+
 /// The value of a row.
 #[inline(always)]
 #[tactic(auto, using(crate::proofs::ValueSteps::shown))]
-pub(crate) fn value_at<'a>(rows: &Rows<'a>, row: usize) -> PlainValue<'a>
+pub(crate) fn value_at<'a>(rows: &Rows<'a>, row: usize) -> CellValue<'a>
     requires row { row < length (contents_of_rows rows.now) }
     requires texts { HasTexts rows.now }
-    ensures { plain_content result ≡ slice_index_or (contents_of_rows rows.now) row null }
+    ensures { cell_content result ≡ slice_index_or (contents_of_rows rows.now) row null }
 {
     match rows {
         Rows::Integers(rows) => {
             items_are_bytes(rows.column.values);
-            integer_value(rows.integer_at(row))
+            CellValue::Plain(integer_value(rows.integer_at(row)))
         }
-        Rows::Booleans(rows) => bool_value(rows.bool_at(row)),
-        Rows::Strings(rows) => text_value(rows.bytes_at(row)),
-        Rows::Bytes(rows) => byte_value(rows.bytes_at(row)),
-        Rows::Nulls(_) => PlainValue::Null,
+        Rows::Booleans(rows) => CellValue::Plain(bool_value(rows.bool_at(row))),
+        Rows::Strings(rows) => CellValue::Plain(text_value(rows.bytes_at(row))),
+        Rows::Bytes(rows) => CellValue::Plain(byte_value(rows.bytes_at(row))),
+        Rows::Nulls(_) => CellValue::Plain(PlainValue::Null),
+        Rows::Values(rows) => logical_value(rows.format, rows.numbers().number_at(row)),
     }
 }

@@ -3,29 +3,38 @@
 ghost use Rattle.std.specs.Prelude.{◌≡◌, ◌+◌, ◌*◌, ◌<◌, ◌≤◌, ℕ, drop, false, length, map, slice_index, take};
 ghost use Rattle.std.specs.List.{All};
 ghost use Rattle.column_keys.specs.Read.{AreWrittenIn, HaveColumns, HaveCounts, HaveSpace, IsWritten};
-ghost use Rattle.column_keys.specs.Read.{HasSpace, HaveValues};
-ghost use Rattle.column_keys.specs.Words.{AreBits, AreIntegers, AreKinds, AreStrings, HaveColumn, IsColumnOf};
+ghost use Rattle.column_keys.specs.Read.{HasSpace, HaveStored, HaveValues};
+ghost use Rattle.column_keys.specs.Words.{AreBits, AreIntegers, AreKinds, AreNumbers, AreStored, AreStrings};
+ghost use Rattle.column_keys.specs.Words.{HaveColumn, IsColumnOf, Logical, items_of, width_of_item};
 ghost use Rattle.column_keys.specs.Words.{Nullable, Valid, bit_of, bitmap_length, bytes_length, content, integer_type};
 ghost use Rattle.column_keys.specs.Words.{is_present, offsets_length, ptype_of_kind, raws_in, truth_in, type_of_kind};
 ghost use Rattle.column_keys.specs.Words.{values_length, width_of};
 
 use crate::buffers::ColumnBuffers;
-use crate::cells::{bytes_or_none, cell_at, is_present, number_or_zero, truth_or_false};
+use crate::cells::{
+    bytes_or_none, cell_at, is_present, number_or_zero, stored_or_zero, truth_or_false,
+};
 use crate::counting::offsets_length;
-use crate::items::put_number;
+use crate::items::{put_item, put_number};
 use crate::types::known_kind;
-use arrow_columns::{IntegerKind, Kind, bitmap_length, put_bit};
+use arrow_columns::{Format, IntegerKind, Kind, bitmap_length, put_bit};
 use column_cells::ptype_of;
+use column_items::item_of_number;
 use vortex_value::Scalar;
 
-/// Writes the columns of these kinds, by their codes, of rows.
-pub(crate) fn write_columns(kinds: &[u8], rows: &[Vec<Scalar>], columns: &mut [ColumnBuffers])
+/// Writes the columns of these kinds, of rows.
+pub(crate) fn write_columns(
+    kinds: &[Option<Kind>],
+    rows: &[Vec<Scalar>],
+    columns: &mut [ColumnBuffers],
+)
     requires few { length rows.now < usize.MAX }
     requires kinds { AreKinds kinds.now (length kinds.now) }
     requires lengths { length columns.old ≡ length kinds.now }
     requires cells { HaveColumns rows.now (length kinds.now) }
     requires typed { HaveValues kinds.now rows.now }
     requires counts { HaveCounts kinds.now rows.now columns.old }
+    requires stored { HaveStored kinds.now rows.now (length kinds.now) }
     requires space { HaveSpace kinds.now rows.now (length kinds.now) columns.old }
     ensures { AreWrittenIn kinds.now rows.now (length kinds.now) columns.old columns.new }
 {
@@ -41,6 +50,7 @@ fn write_column(rows: &[Vec<Scalar>], which: usize, kind: Kind, column: &mut Col
     requires few { length rows.now < usize.MAX }
     requires cells { HaveColumn rows.now which }
     requires typed { All (Valid (type_of_kind kind)) (raws_in rows.now which) }
+    requires stored { AreStored kind (map content (raws_in rows.now which)) (length rows.now) }
     requires counted { column.old.count ≡ values_length kind (map content (raws_in rows.now which)) }
     requires space { HasSpace kind (length rows.now) column.old }
     ensures { IsWritten kind (map content (raws_in rows.now which)) column.old column.new }
@@ -70,6 +80,7 @@ fn write_front(
     requires few { length rows.now < usize.MAX }
     requires cells { HaveColumn rows.now which }
     requires typed { All (Valid (type_of_kind kind)) (raws_in rows.now which) }
+    requires stored { AreStored kind (map content (raws_in rows.now which)) (length rows.now) }
     requires counted { count ≡ values_length kind (map content (raws_in rows.now which)) }
     requires bits { bitmap_length (length rows.now) ≤ length validity.old }
     requires items { count ≤ length values.old }
@@ -105,6 +116,7 @@ fn write_whole(
     requires few { length rows.now < usize.MAX }
     requires cells { HaveColumn rows.now which }
     requires typed { All (Valid (type_of_kind kind)) (raws_in rows.now which) }
+    requires stored { AreStored kind (map content (raws_in rows.now which)) (length rows.now) }
     requires bits { length validity.old ≡ bitmap_length (length rows.now) }
     requires items { length values.old ≡ values_length kind (map content (raws_in rows.now which)) }
     requires places { length offsets.old ≡ offsets_length kind (length rows.now) }
@@ -118,6 +130,7 @@ fn write_whole(
             write_strings(rows, which, values, offsets)
         }
         Kind::Null => {}
+        Kind::Logical(format) => write_values(rows, which, format, values),
     }
 }
 
@@ -165,6 +178,19 @@ fn write_integers(rows: &[Vec<Scalar>], which: usize, kind: IntegerKind, values:
     for row in 0..rows.len() {
         let cell = cell_at(rows, row, which);
         put_number(values, row, number_or_zero(cell, ptype));
+    }
+}
+
+/// Writes the items of the format, and that of 0 for a null.
+fn write_values(rows: &[Vec<Scalar>], which: usize, format: Format, values: &mut [u8])
+    requires column { HaveColumn rows.now which }
+    requires stored { AreStored (Logical format) (map content (raws_in rows.now which)) (length rows.now) }
+    requires buffer { length rows.now * width_of_item (items_of format) ≤ length values.old }
+    ensures { AreNumbers format (map content (raws_in rows.now which)) values.new }
+{
+    for row in 0..rows.len() {
+        let number = stored_or_zero(cell_at(rows, row, which), format);
+        put_item(values, row, item_of_number(format, number));
     }
 }
 

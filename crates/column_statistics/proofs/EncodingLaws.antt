@@ -1,11 +1,11 @@
 -- Statistics of columns of one type: as encodings, and merged.
 use Rattle.std.proofs.Common.{◌∙◌, ◌⊎◌, inl, inr, List, ap, ◌≡◌, ℕ, ◌+◌, ◌<◌, ◌^◌, Bool, true, false, nat_lt, Option, Some, None, IfSome, Ordering, Less, Equal, Greater, arith, refl, subst, sym, if◌then◌else◌, option_map}
 use Rattle.std.proofs.lemmas.Bool.Decides.{nat_tests}
-use Rattle.arrow_columns.specs.Kinds.{kind_at}
+use Rattle.arrow_columns.specs.Columns.{kind_in}
 use Rattle.arrow_columns.specs.declared.columns.Column.{Column}
 use Rattle.arrow_columns.specs.declared.kinds.Kind.{Kind}
-use Rattle.arrow_columns.specs.declared.kinds.Kind.TheVariants.{Binary, Boolean, Integer, LargeBinary, LargeUtf8, Null, Utf8}
-use Rattle.column_cells.specs.Types.{type_at, type_of_column, type_of_kind}
+use Rattle.arrow_columns.specs.declared.kinds.Kind.TheVariants.{Binary, Boolean, Integer, LargeBinary, LargeUtf8, Logical, Null, Utf8}
+use Rattle.column_cells.specs.Types.{IsLogical, type_at, type_of_column, type_of_kind}
 use Rattle.vortex_dtype.specs.TypeTree.{TypeTree}
 use Rattle.vortex_value.specs.Equality.{HasNoTyped}
 use Rattle.vortex_value.specs.Validity.{Valid}
@@ -18,12 +18,14 @@ use Rattle.vortex_statistics.specs.Merging.{AreRightTogether, bound_of_both, bou
 use Rattle.vortex_statistics.specs.Statistics.{HasValidBounds, IsValidBound, Known, KnownBound, known, known_bound, may_be_value}
 use Rattle.vortex_statistics.specs.declared.column_statistics.Bound.{Bound}
 use Rattle.vortex_statistics.specs.declared.column_statistics.ColumnStatistics.{ColumnStatistics}
-use Rattle.statistics_bytes.specs.Encoding.{AreOf, IsBoundOf, IsHeldBound, IsHeldKnown, encoding}
-use Rattle.statistics_bytes.specs.EncodingAnswers.{SaysBound}
+use Rattle.arrow_columns.specs.declared.formats.Format.TheVariants as formats
+use Rattle.column_items.proofs.FormatTypes.{no_variant_in as no_variant_in_format}
+use Rattle.named_statistics.specs.Named.{SaysNamedBound, SaysNamedVariant, named_encoding}
+use Rattle.statistics_bytes.specs.Encoding.{AreOf, IsBoundOf, IsHeldBound, IsHeldKnown}
 use Rattle.vortex_statistics.specs.declared.error.StatisticsError.{StatisticsError}
 use Rattle.vortex_statistics.specs.declared.error.StatisticsError.TheVariants.{BadBytes, HasVariant, OutOfMemory as Memory}
 use Rattle.column_statistics.specs.Errors.{IsColumnStatisticsError}
-use Rattle.column_statistics.specs.Encodings.{IsEncodingAs, IsEncodingError, IsMergeError, IsMergedEncoding, IsReadError, IsWrongAt, fault_of_piece, read_fault}
+use Rattle.column_statistics.specs.Encodings.{IsEncodingAs, IsEncodingError, IsExtensionType, IsMergeError, IsMergedEncoding, IsReadError, IsWrongAt, fault_of_piece, read_fault}
 use Rattle.column_statistics.specs.declared.errors.MergeError.{MergeError}
 use Rattle.column_statistics.specs.declared.errors.ReadError.{ReadError}
 use Rattle.column_statistics.specs.declared.errors.ReadError.TheVariants as read
@@ -41,13 +43,14 @@ no_variant LargeUtf8 = tt
 no_variant Binary = tt
 no_variant LargeBinary = tt
 no_variant Null = tt
+no_variant (Logical format) = no_variant_in_format format
 
 no_variant_at : (kind : Option Kind) → HasNoVariant (type_at kind)
 no_variant_at None = tt
 no_variant_at (Some kind) = no_variant kind
 
 pub no_variant_in : (column : Column) → HasNoVariant (type_of_column column)
-no_variant_in column = no_variant_at (kind_at column.kind)
+no_variant_in column = no_variant_at (kind_in column)
 
 -- ---- statistics of a type
 
@@ -134,46 +137,72 @@ encoding_fault column OutOfMemory h = h.0
 encoding_fault column (Unreadable fault) h = h
 
 -- what was read of bytes, of a type that is this one
-pub as_encoding : (t u : TypeTree) (bytes : List ℕ) (s : Known) → t ≡ u → AreOf t s → bytes ≡ encoding s → IsEncodingAs u bytes s
-as_encoding t u bytes s e h f = record { of_type = subst (λ v. AreOf v s) e h; is = f }
+pub as_encoding : (t u : TypeTree) (bytes : List ℕ) (s : Known) → t ≡ u → AreOf t s → bytes ≡ named_encoding t s → IsEncodingAs u bytes s
+as_encoding t u bytes s e h f = record { of_type = subst (λ v. AreOf v s) e h; is = f ∙ ap (λ v. named_encoding v s) e }
+
+-- and the other way round
+pub read_whole : (t u : TypeTree) (bytes : List ℕ) (s : Known) → t ≡ u → IsEncodingAs t bytes s → AreOf u s × (bytes ≡ named_encoding u s)
+read_whole t u bytes s e h = (subst (λ v. AreOf v s) e h.of_type, h.is ∙ ap (λ v. named_encoding v s) e)
 
 -- why bytes are not read, of a type that is this one, in which no variant stands
-pub not_read : (t u : TypeTree) (bytes : List ℕ) (e : StatisticsError) (told : ReadError) → t ≡ u → HasNoVariant u → told ≡ read_fault e
-    → (e ≡ HasVariant → (¬ (HasNoVariant t)) × SaysBound bytes) → ((place : ℕ) → e ≡ BadBytes place → IsWrongAt t bytes place)
-    → ((e ≡ HasVariant) ⊎ (((e ≡ Memory) × SaysBound bytes) ⊎ ((place : ℕ) × (e ≡ BadBytes place)))) → IsReadError u bytes told
-not_read t u bytes e told q n f variant bad (inl h) = absurd ((variant h).0 (subst HasNoVariant (sym q) n))
-not_read t u bytes e told q n f variant bad (inr (inl h)) = subst (IsReadError u bytes) (sym (f ∙ ap read_fault h.0)) h.1
-not_read t u bytes e told q n f variant bad (inr (inr h)) =
-    subst (IsReadError u bytes) (sym (f ∙ ap read_fault h.1)) (subst (λ v. IsWrongAt v bytes h.0) q (bad h.0 h.1))
+pub not_read : (t : TypeTree) (kind : Kind) (bytes : List ℕ) (e : StatisticsError) (told : ReadError) → t ≡ type_of_kind kind → told ≡ read_fault e
+    → (e ≡ HasVariant → SaysNamedVariant t bytes) → ((place : ℕ) → e ≡ BadBytes place → IsWrongAt t bytes place)
+    → ((e ≡ HasVariant) ⊎ (((e ≡ Memory) × SaysNamedBound t bytes) ⊎ ((place : ℕ) × (e ≡ BadBytes place)))) → IsReadError kind bytes told
+not_read t kind bytes e told q f variant bad (inl h) = absurd ((variant h).0 (subst HasNoVariant (sym q) (no_variant kind)))
+not_read t kind bytes e told q f variant bad (inr (inl h)) =
+    subst (IsReadError kind bytes) (sym (f ∙ ap read_fault h.0)) (inr (subst (λ v. SaysNamedBound v bytes) q h.1))
+not_read t kind bytes e told q f variant bad (inr (inr h)) =
+    subst (IsReadError kind bytes) (sym (f ∙ ap read_fault h.1)) (subst (λ v. IsWrongAt v bytes h.0) q (bad h.0 h.1))
+
+-- the type of a kind takes memory
+pub logical_takes : (kind : Kind) → IsLogical kind → IsExtensionType (type_of_kind kind)
+logical_takes (Logical formats.Float32) h = tt
+logical_takes (Logical formats.Float64) h = tt
+logical_takes (Logical formats.Date32) h = tt
+logical_takes (Logical (formats.Time unit)) h = tt
+logical_takes (Logical (formats.Timestamp unit is_zoned)) h = tt
+logical_takes (Logical (formats.Decimal width precision scale)) h = tt
+logical_takes _ h = absurd h
 
 -- both pieces, which are encodings
 pub merged_keyed : (t : TypeTree) (one other : List ℕ) (s u m : Known) → IsEncodingAs t one s → IsEncodingAs t other u → s.row_count + u.row_count < 2 ^ 64 → m ≡ merged s u → HasNoVariants m
 merged_keyed t one other s u m h k l e = subst HasNoVariants (sym e) (keyed t (merged s u) (merged_of t s u h.of_type k.of_type l))
 
-pub merged_encoding_of : (t : TypeTree) (one other bytes : List ℕ) (s u m : Known) → IsEncodingAs t one s → IsEncodingAs t other u → s.row_count + u.row_count < 2 ^ 64
-    → m ≡ merged s u → AreRightTogether s u m → bytes ≡ encoding m → IsMergedEncoding t one other bytes
-merged_encoding_of t one other bytes s u m h k l e r f = record {
+pub merged_encoding_of : (t v : TypeTree) (one other bytes : List ℕ) (s u m : Known) → v ≡ t → IsEncodingAs t one s → IsEncodingAs t other u → s.row_count + u.row_count < 2 ^ 64
+    → m ≡ merged s u → AreRightTogether s u m → bytes ≡ named_encoding v m → IsMergedEncoding t one other bytes
+merged_encoding_of t v one other bytes s u m q h k l e r f = record {
   first = s;
   second = u;
   is_first = h;
   is_second = k;
   together = subst (AreRightTogether s u) e r;
-  both = record { of_type = merged_of t s u h.of_type k.of_type l; is = f ∙ ap encoding e };
+  both = record { of_type = merged_of t s u h.of_type k.of_type l; is = f ∙ ap (λ w. named_encoding w m) q ∙ ap (named_encoding t) e };
 }
 
-pub first_wrong : (t : TypeTree) (one other : List ℕ) (fault : ReadError) (told : MergeError) → told ≡ fault_of_piece 0 fault → IsReadError t one fault → IsMergeError t one other told
-first_wrong t one other fault told e h = subst (IsMergeError t one other) (sym e) (by_fault fault h)
+pub first_wrong : (kind : Kind) (one other : List ℕ) (fault : ReadError) (told : MergeError) → told ≡ fault_of_piece 0 fault → IsReadError kind one fault → IsMergeError kind one other told
+first_wrong kind one other fault told e h = subst (IsMergeError kind one other) (sym e) (by_fault fault h)
   where
-    by_fault : (fault : ReadError) → IsReadError t one fault → IsMergeError t one other (fault_of_piece 0 fault)
-    by_fault read.OutOfMemory k = inl k
-    by_fault (read.BadBytes place) k = inl (refl, k)
+    by_memory : IsExtensionType (type_of_kind kind) ⊎ SaysNamedBound (type_of_kind kind) one → IsMergeError kind one other (fault_of_piece 0 read.OutOfMemory)
+    by_memory (inl k) = inl k
+    by_memory (inr k) = inr (inl k)
 
-pub second_wrong : (t : TypeTree) (one other : List ℕ) (s : Known) (fault : ReadError) (told : MergeError) → told ≡ fault_of_piece 1 fault → IsEncodingAs t one s → IsReadError t other fault → IsMergeError t one other told
-second_wrong t one other s fault told e f h = subst (IsMergeError t one other) (sym e) (by_fault fault h)
+    by_fault : (fault : ReadError) → IsReadError kind one fault → IsMergeError kind one other (fault_of_piece 0 fault)
+    by_fault read.OutOfMemory k = by_memory k
+    by_fault (read.BadBytes place) k = inl (refl, k)
+    by_fault read.NotAValue k = inl (refl, k)
+
+pub second_wrong : (kind : Kind) (one other : List ℕ) (s : Known) (fault : ReadError) (told : MergeError) → told ≡ fault_of_piece 1 fault → IsEncodingAs (type_of_kind kind) one s → IsReadError kind other fault
+    → IsMergeError kind one other told
+second_wrong kind one other s fault told e f h = subst (IsMergeError kind one other) (sym e) (by_fault fault h)
   where
-    by_fault : (fault : ReadError) → IsReadError t other fault → IsMergeError t one other (fault_of_piece 1 fault)
-    by_fault read.OutOfMemory k = inr (inl (record { statistics = s; of_type = f.of_type; is = f.is }, k))
+    by_memory : IsExtensionType (type_of_kind kind) ⊎ SaysNamedBound (type_of_kind kind) other → IsMergeError kind one other (fault_of_piece 1 read.OutOfMemory)
+    by_memory (inl k) = inl k
+    by_memory (inr k) = inr (inr (inl (record { statistics = s; of_type = f.of_type; is = f.is }, k)))
+
+    by_fault : (fault : ReadError) → IsReadError kind other fault → IsMergeError kind one other (fault_of_piece 1 fault)
+    by_fault read.OutOfMemory k = by_memory k
     by_fault (read.BadBytes place) k = inr (refl, record { statistics = s; of_type = f.of_type; is = f.is }, k)
+    by_fault read.NotAValue k = inr (refl, record { statistics = s; of_type = f.of_type; is = f.is }, k)
 
 -- the bounds are values of the type
 bound_in : (t : TypeTree) (b : Option Bound) → IsBoundOf t (option_map known_bound b) → IsValidBound b → IfSome b (IsBoundIn t)
@@ -183,4 +212,4 @@ bound_in t (Some b) of valid = record { typed = of.typed; valid = valid }
 pub bounds_in : (t : TypeTree) (s : ColumnStatistics) → AreOf t (known s) → HasValidBounds s → HasBoundsIn t s
 bounds_in t s of valid = record { lower = bound_in t s.lower of.lower valid.lower; upper = bound_in t s.upper of.upper valid.upper }
 
-pub ruleset shown = (without_variants, no_variant, no_variant_in, encoding_fault)
+pub ruleset shown = (without_variants, no_variant, no_variant_in, encoding_fault, logical_takes)

@@ -1,35 +1,32 @@
 -- The raw values of columns, by the contents that their types have.
-use Rattle.std.proofs.Common.{◌≡◌, ◌∙◌, ℕ, ℤ, Bool, true, false, List, [], ◌∷◌, Some, ap, refl, rules, subst, sym}
-use Rattle.std.proofs.lemmas.Bool.{false≢true}
+use Rattle.std.proofs.Common.{◌≡◌, ◌∙◌, ℕ, ℤ, Bool, List, [], ◌∷◌, Some, ap, length, refl, subst, sym}
 use Rattle.arrow_columns.specs.declared.kinds.IntegerKind.{IntegerKind}
 use Rattle.arrow_columns.specs.declared.kinds.Kind.{Kind}
-use Rattle.arrow_columns.specs.declared.kinds.Kind.TheVariants.{Binary, Boolean, Integer, LargeBinary, LargeUtf8, Null, Utf8}
+use Rattle.arrow_columns.specs.declared.kinds.Kind.TheVariants.{Binary, Boolean, Integer, LargeBinary, LargeUtf8, Logical, Null, Utf8}
 use Rattle.column_cells.specs.Types.{ptype_of_kind, type_of_kind}
 use Rattle.vortex_dtype.specs.TypeTree.{binary_type, bool_type, integer_type, null_type, utf8_type}
 use Rattle.vortex_dtype.specs.declared.nullability.Nullability.TheVariants.{Nullable}
 use Rattle.vortex_dtype.specs.declared.ptype.PType.{PType}
 use Rattle.vortex_pvalue.specs.Numbers.{InRange}
 use Rattle.vortex_value.specs.Validity.{Valid}
-use Rattle.vortex_value.specs.Values.Content.{content, null, string, text, truth, whole}
+use Rattle.vortex_value.specs.Values.Content.{Content, content, string, text, truth, whole}
 use Rattle.vortex_value.specs.Values.RawKinds.{IsBoolValue, IsBytesValue, IsIntegerValue, IsTextValue}
-use Rattle.vortex_value.specs.Values.RawOf.{raw_of, value_tree}
-use Rattle.vortex_value.specs.Values.RawTree.{RawTree, absent, is_absent, raw_bool, raw_bytes, raw_integer, raw_text}
+use Rattle.vortex_value.specs.Values.RawOf.{value_tree}
+use Rattle.vortex_value.specs.Values.RawTree.{RawTree, absent, raw_bool, raw_bytes, raw_integer, raw_text}
 use Rattle.vortex_value.specs.Values.Scalars.{scalar_content}
 use Rattle.vortex_value.specs.declared.scalars.Scalar.{Scalar}
-use Rattle.vortex_value.specs.declared.values.ScalarValue.{ScalarValue, the_lemmas}
+use Rattle.vortex_value.specs.declared.values.ScalarValue.{ScalarValue}
+use Rattle.column_items.proofs.ItemFits.{fits_item}
+use Rattle.column_items.proofs.NumberSteps.{held, no_null, stored_held}
+use Rattle.column_items.specs.Items.{FitsItem}
+use Rattle.column_items.specs.Numbers.{HasContentOf, StoresNumber}
+use Rattle.arrow_columns.specs.Formats.{items_of}
+use Rattle.arrow_columns.specs.Integers.{number_of, width_of_item}
+use Rattle.arrow_columns.specs.declared.formats.Format.{Format}
+use Rattle.column_cells.specs.Contents.{stored_content}
 use Rattle.vortex_cells.specs.Cells.{cell_of}
 use Rattle.statistics_bytes.specs.Encoding.{IsCellOf}
 use Rattle.column_statistics.specs.Items.{IsItemOf, truth_byte}
-
-not_absent : (v : ScalarValue) → is_absent (value_tree v) ≡ false
-not_absent v = search (rules, the_lemmas)
-
-null_is_absent : (v : RawTree) → content v ≡ null → is_absent v ≡ true
-null_is_absent absent e = refl
-null_is_absent _ e = cc
-
-no_null : (v : ScalarValue) → content (value_tree v) ≡ null → ⊥
-no_null v e = false≢true (sym (not_absent v) ∙ null_is_absent (value_tree v) e)
 
 -- what has the content of a kind is a value of that kind
 a_truth : (v : RawTree) (b : Bool) → content v ≡ truth b → IsBoolValue v
@@ -82,10 +79,6 @@ in_range k z _ e h = absurd h
 
 -- ---- the value of a scalar that is a cell of a column of the kind
 
--- its content
-held : (x : Scalar) (v : ScalarValue) → Some v ≡ x.value → content (value_tree v) ≡ scalar_content x
-held x v e = ap (λ o. content (raw_of o)) e
-
 cell_at : (kind k : Kind) (x : Scalar) → kind ≡ k → IsCellOf (type_of_kind kind) (cell_of x) → IsCellOf (type_of_kind k) (cell_of x)
 cell_at kind k x e h = subst (λ j. IsCellOf (type_of_kind j) (cell_of x)) e h
 
@@ -121,6 +114,17 @@ large_bytes_held kind x v e f h = binary_held x v f (cell_at kind LargeBinary x 
 pub none_held : (kind : Kind) (x : Scalar) (v : ScalarValue) → kind ≡ Null → Some v ≡ x.value → IsCellOf (type_of_kind kind) (cell_of x) → ⊥
 none_held kind x v e f h = let c = cell_at kind Null x e h in no_value v c.value (held x v f ∙ c.is) c.is_value.valid
 
+-- ---- the number of a value of a logical type
+
+pub stored_in : (kind : Kind) (format : Format) (x : Scalar) (v : ScalarValue) → kind ≡ Logical format → Some v ≡ x.value → HasContentOf kind (scalar_content x) → (z : ℤ) × StoresNumber format (content (value_tree v)) z
+stored_in kind format x v e f h = stored_held format x v f (subst (λ k. HasContentOf k (scalar_content x)) e h)
+
+pub fits_stored : (format : Format) (c : Content) (z y : ℤ) → StoresNumber format c z → y ≡ z → FitsItem (items_of format) y
+fits_stored format c z y h e = subst (FitsItem (items_of format)) (sym e) (fits_item format z h.sound h.value)
+
+pub stored_item : (format : Format) (c : Content) (z y : ℤ) (bytes : List ℕ) → StoresNumber format c z → y ≡ z → length bytes ≡ width_of_item (items_of format) → number_of (items_of format) bytes ≡ y → IsItemOf (Logical format) c bytes
+stored_item format c z y bytes h e long is = (long, ap (stored_content format) (is ∙ e) ∙ sym h.is)
+
 -- ---- as bytes
 
 pub truth_item : (b : Bool) (n : ℕ) → n ≡ truth_byte b → IsItemOf Boolean (truth b) (n ∷ [])
@@ -132,4 +136,4 @@ item_held kind k x v r bytes e f g h =
     let q : content r ≡ scalar_content x = sym (ap content g) ∙ held x v f in
     subst (λ j. IsItemOf j (scalar_content x) bytes) (sym e) (subst (λ y. IsItemOf k y bytes) q h)
 
-pub ruleset shown = (bool_held, integer_held, number_held, text_held, large_text_held, bytes_held, large_bytes_held, none_held)
+pub ruleset shown = (bool_held, integer_held, number_held, text_held, large_text_held, bytes_held, large_bytes_held, none_held, stored_in)

@@ -30,7 +30,7 @@ use Rattle.column_statistics.proofs.ContentLaws.{all_null, contains_got, extreme
 
 -- ---- integers
 
-upto_whole : (x y : ℤ) → x ≤ℤ y → SaysUpTo (Some (int_cmp x y))
+pub upto_whole : (x y : ℤ) → x ≤ℤ y → SaysUpTo (Some (int_cmp x y))
 upto_whole x y h =
     by_ranked (x <ℤ y) (x ≡ y) (y <ℤ x) (int_cmp x y) (int_ranked x y (int_cmp x y) refl)
     (λ e l. inl (ap Some e))

@@ -6,3 +6,4 @@ mod IntegerRanges
 mod ItemLaws
 mod KindLaws
 mod RightLaws
+pub mod ValueLaws

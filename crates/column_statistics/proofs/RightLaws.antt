@@ -2,7 +2,9 @@
 use Rattle.std.proofs.Common.{◌∙◌, ℕ, List, sym, subst}
 use Rattle.vortex_dtype.specs.TypeTree.{TypeTree}
 use Rattle.vortex_cells.specs.Cells.{Cell}
-use Rattle.statistics_bytes.specs.Encoding.{EncodingsTellStatistics}
+use Rattle.named_statistics.specs.Heads.{head_of}
+use Rattle.std.proofs.lemmas.List.{append_cancel_left}
+use Rattle.statistics_bytes.specs.Encoding.{EncodingsTellStatistics, encoding}
 use Rattle.vortex_statistics.specs.Statistics.{AreRight, Known, known}
 use Rattle.column_statistics.specs.Encodings.{IsEncodingAs}
 use Rattle.column_statistics.specs.Laws.{AreRightBytes, EncodingsStayRight}
@@ -10,7 +12,8 @@ use Rattle.column_statistics.specs.Laws.{AreRightBytes, EncodingsStayRight}
 module _ (tell : EncodingsTellStatistics) where
   right_read : (t : TypeTree) (bytes : List ℕ) (cells : List Cell) (s : Known) → AreRightBytes t bytes cells → IsEncodingAs t bytes s → AreRight s cells
   right_read t bytes cells s h is =
-      subst (λ k. AreRight k cells) (tell t h.statistics s h.is_encoding.of_type is.of_type (sym h.is_encoding.is ∙ is.is)) h.right
+      let same = append_cancel_left (head_of t) (encoding h.statistics) (encoding s) (sym h.is_encoding.is ∙ is.is) in
+      subst (λ k. AreRight k cells) (tell t h.statistics s h.is_encoding.of_type is.of_type same) h.right
 
   pub stay_right : EncodingsStayRight
   stay_right = record {

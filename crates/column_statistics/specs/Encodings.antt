@@ -1,13 +1,17 @@
 -- Statistics of columns as bytes, and why there are none.
-use Rattle.std.specs.Prelude.{◌≡◌, ◌⊎◌, ℕ, ◌+◌, ◌<◌, ◌^◌, ◌≤◌, List}
+use Rattle.std.specs.Prelude.{◌≡◌, ◌⊎◌, ℕ, ◌+◌, ◌<◌, ◌^◌, ◌≤◌, List, Option, IfSome}
 use Rattle.arrow_columns.specs.Errors.{IsErrorOf}
 use Rattle.arrow_columns.specs.declared.columns.Column.{Column}
 use Rattle.column_cells.specs.Types.{type_of_column}
-use Rattle.vortex_dtype.specs.TypeTree.{TypeTree}
-use Rattle.statistics_bytes.specs.Encoding.{AreOf, IsEncodingOf, encoding}
-use Rattle.statistics_bytes.specs.EncodingAnswers.{HasValues, IsFirstWrong, SaysBound}
+use Rattle.vortex_dtype.specs.TypeTree.{TypeTree, extension_type}
+use Rattle.arrow_columns.specs.declared.kinds.Kind.{Kind}
+use Rattle.column_cells.specs.Types.{type_of_kind}
+use Rattle.column_items.specs.Numbers.{HasContentOf}
+use Rattle.named_statistics.specs.Named.{IsNamedEncodingOf, SaysNamedBound, named_encoding}
+use Rattle.statistics_bytes.specs.Encoding.{AreOf}
+use Rattle.statistics_bytes.specs.EncodingAnswers.{HasValues, IsFirstWrong}
 use Rattle.vortex_statistics.specs.Merging.{AreRightTogether, merged}
-use Rattle.vortex_statistics.specs.Statistics.{AreRight, Known, known}
+use Rattle.vortex_statistics.specs.Statistics.{AreRight, Known, KnownBound, known}
 use Rattle.vortex_statistics.specs.declared.column_statistics.ColumnStatistics.{ColumnStatistics}
 use Rattle.vortex_statistics.specs.declared.error.StatisticsError.{StatisticsError}
 use Rattle.vortex_statistics.specs.declared.error.StatisticsError.TheVariants as any
@@ -28,7 +32,7 @@ pub record IsColumnEncoding (column : Column) (n : ℕ) (bytes : List ℕ) : Typ
   pub cut : AreCutStatistics n (cells_of_column column) statistics
   pub right : AreRight (known statistics) (cells_of_column column)
   pub of_type : AreOf (type_of_column column) (known statistics)
-  pub is : bytes ≡ encoding (known statistics)
+  pub is : bytes ≡ named_encoding (type_of_column column) (known statistics)
 
 -- why a column has no encoding: there is no memory, or it cannot be read
 abbrev pub IsEncodingError : Column → ColumnStatisticsError → Type 0
@@ -40,16 +44,37 @@ IsEncodingError column (Unreadable fault) = IsErrorOf column fault
 -- the bytes are the encoding of these statistics, which are of the type
 pub record IsEncodingAs (t : TypeTree) (bytes : List ℕ) (s : Known) : Type 0 where
   pub of_type : AreOf t s
-  pub is : bytes ≡ encoding s
+  pub is : bytes ≡ named_encoding t s
 
 -- the bytes are no encoding of statistics of the type, and this is the offset of the first byte that none has there
 abbrev pub IsWrongAt : TypeTree → List ℕ → ℕ → Type 0
-IsWrongAt t bytes place = IsFirstWrong (IsEncodingOf t) (SaysBound bytes → HasValues t) bytes place
+IsWrongAt t bytes place = IsFirstWrong (IsNamedEncodingOf t) (SaysNamedBound t bytes → HasValues t) bytes place
 
--- why bytes are not read: there is no memory for a bound, or they are no encoding
-abbrev pub IsReadError : TypeTree → List ℕ → ReadError → Type 0
-IsReadError t bytes read.OutOfMemory = SaysBound bytes
-IsReadError t bytes (read.BadBytes place) = IsWrongAt t bytes place
+-- the bound, if it is there, is null or a value of the kind
+abbrev pub HasValueIn : Kind → Option KnownBound → Type 0
+HasValueIn kind b = IfSome b (λ b. HasContentOf kind b.value.content)
+
+-- so is each bound
+pub record HaveValues (kind : Kind) (s : Known) : Type 0 where
+  pub lower : HasValueIn kind s.lower
+  pub upper : HasValueIn kind s.upper
+
+-- the bytes are the encoding of statistics of the kind, and a bound of these is no value of it
+pub record HasNoValue (kind : Kind) (bytes : List ℕ) : Type 0 where
+  pub statistics : Known
+  pub is_encoding : IsEncodingAs (type_of_kind kind) bytes statistics
+  pub none : ¬ (HaveValues kind statistics)
+
+-- the type takes memory of its own
+abbrev pub IsExtensionType : TypeTree → Type 0
+IsExtensionType (extension_type id metadata storage) = Unit {0}
+IsExtensionType _ = ⊥
+
+-- why bytes are not read: there is no memory for the type or for a bound, they are no encoding, or a bound is no value
+abbrev pub IsReadError : Kind → List ℕ → ReadError → Type 0
+IsReadError kind bytes read.OutOfMemory = IsExtensionType (type_of_kind kind) ⊎ SaysNamedBound (type_of_kind kind) bytes
+IsReadError kind bytes (read.BadBytes place) = IsWrongAt (type_of_kind kind) bytes place
+IsReadError kind bytes read.NotAValue = HasNoValue kind bytes
 
 -- what a reader of statistics of any type says, of a type in which no variant stands
 abbrev pub read_fault : StatisticsError → ReadError
@@ -85,19 +110,24 @@ pub record CanBeMerged (t : TypeTree) (one other : List ℕ) : Type 0 where
   pub is_second : IsEncodingAs t other second
   pub few : first.row_count + second.row_count < 2 ^ 64
 
--- what takes memory: a bound that the first piece says; if that is an encoding, one that the second says; and if both can be
--- merged, the encoding of both
+-- what takes memory: a logical type; a bound that the first piece says; if that is an encoding, one that the second says; and
+-- if both can be merged, the encoding of both
 abbrev pub TakesMemory : TypeTree → List ℕ → List ℕ → Type 0
-TakesMemory t one other = SaysBound one ⊎ ((IsEncodingOf t one × SaysBound other) ⊎ CanBeMerged t one other)
+TakesMemory t one other = IsExtensionType t ⊎ (SaysNamedBound t one ⊎ ((IsNamedEncodingOf t one × SaysNamedBound t other) ⊎ CanBeMerged t one other))
 
--- why two pieces are not merged: of those that are no encoding the first, by its number and offset; or there is no memory
-abbrev pub IsMergeError : TypeTree → List ℕ → List ℕ → MergeError → Type 0
-IsMergeError t one other merge.OutOfMemory = TakesMemory t one other
-IsMergeError t one other merge.TooManyRows = HaveTooManyRows t one other
-IsMergeError t one other (merge.BadBytes piece place) =
-    ((piece ≡ 0) × IsWrongAt t one place) ⊎ ((piece ≡ 1) × IsEncodingOf t one × IsWrongAt t other place)
+-- why two pieces are not merged: of those that are no encoding, or have a bound that is no value, the first, by its number and
+-- offset; or there is no memory
+abbrev pub IsMergeError : Kind → List ℕ → List ℕ → MergeError → Type 0
+IsMergeError kind one other merge.OutOfMemory = TakesMemory (type_of_kind kind) one other
+IsMergeError kind one other merge.TooManyRows = HaveTooManyRows (type_of_kind kind) one other
+IsMergeError kind one other (merge.BadBytes piece place) =
+    ((piece ≡ 0) × IsWrongAt (type_of_kind kind) one place)
+    ⊎ ((piece ≡ 1) × IsNamedEncodingOf (type_of_kind kind) one × IsWrongAt (type_of_kind kind) other place)
+IsMergeError kind one other (merge.NotAValue piece) =
+    ((piece ≡ 0) × HasNoValue kind one) ⊎ ((piece ≡ 1) × IsNamedEncodingOf (type_of_kind kind) one × HasNoValue kind other)
 
 -- the same reason, of one of the pieces that is not read
 abbrev pub fault_of_piece : ℕ → ReadError → MergeError
 fault_of_piece piece read.OutOfMemory = merge.OutOfMemory
 fault_of_piece piece (read.BadBytes place) = merge.BadBytes piece place
+fault_of_piece piece read.NotAValue = merge.NotAValue piece

@@ -1,11 +1,14 @@
 -- The least and the greatest of some contents.
-use Rattle.std.specs.Prelude.{◌≡◌, ◌⊎◌, ℕ, Bool, false, List, Contains, slice_get, map, Option, Some, IfSome, MatchOption}
+use Rattle.std.specs.Prelude.{◌≡◌, ◌⊎◌, ℕ, ℤ, Bool, false, List, Contains, slice_get, map, Option, Some, IfSome, MatchOption}
 use Rattle.std.specs.List.{All, count_by}
 use Rattle.std.specs.Option.{IsNone}
 use Rattle.std.specs.declared.cmp.Ordering.{Ordering}
 use Rattle.std.specs.declared.cmp.Ordering.TheVariants.{Less, Equal}
+use Rattle.arrow_columns.specs.declared.formats.Format.{Format}
 use Rattle.arrow_columns.specs.declared.statistics.ByteExtremes.{ByteExtremes}
 use Rattle.arrow_columns.specs.declared.statistics.ByteStatistics.{ByteStatistics}
+use Rattle.column_cells.specs.Contents.{stored_content}
+use Rattle.column_cells.specs.Types.{type_of_format}
 use Rattle.vortex_dtype.specs.TypeTree.{TypeTree}
 use Rattle.vortex_cells.specs.Cells.{is_null_content}
 use Rattle.vortex_statistics.specs.Statistics.{AreComplete, known}
@@ -50,6 +53,12 @@ pub record AreExtremesOf (t : TypeTree) (contents : List Content) (e : Extremes)
 pub record AreSummaryOf (t : TypeTree) (contents : List Content) (s : Summary) : Type 0 where
   pub nulls : s.null_count ≡ count_by is_null_content contents
   pub extremes : MatchOption s.extremes (All (λ c. c ≡ null) contents) (AreExtremesOf t contents)
+
+-- the scalar is that of a value of the format, by its number
+pub record IsScalarOf (format : Format) (z : ℤ) (x : Scalar) : Type 0 where
+  pub typed : scalar_type x ≡ type_of_format format
+  pub valid : IsValid x
+  pub is : scalar_content x ≡ stored_content format z
 
 -- ---- by rows
 

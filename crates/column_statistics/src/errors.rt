@@ -19,6 +19,8 @@ pub enum ReadError {
     /// They are no encoding of statistics of the type: the offset of the first byte that none has
     /// there, or of the end if they end too early.
     BadBytes { offset: usize },
+    /// A bound is no value of the logical type.
+    NotAValue,
 }
 
 /// Why the statistics of two pieces are not merged.
@@ -31,4 +33,6 @@ pub enum MergeError {
     /// The bytes of piece 0 or 1 are no encoding of statistics of the type: the first such piece,
     /// and the offset in it.
     BadBytes { piece: usize, offset: usize },
+    /// A bound of piece 0 or 1 is no value of the logical type: the first such piece.
+    NotAValue { piece: usize },
 }

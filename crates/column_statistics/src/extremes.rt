@@ -2,15 +2,17 @@
 
 ghost use Rattle.std.specs.Prelude.{Bool, IfErr, IfOk, List, Option};
 ghost use Rattle.column_statistics.specs.Words.{AreBooleanStatisticsOf, AreExtremesAt, AreExtremesOf, ArePlacesOf};
-ghost use Rattle.column_statistics.specs.Words.{AreSummaryOf, AreTruthsOf, HasLong, HasTexts, Nullable, bool_type};
+ghost use Rattle.column_statistics.specs.Words.{AreSummaryOf, AreTruthsOf, HasTexts, Nullable, bool_type};
 ghost use Rattle.column_statistics.specs.Words.{boolean_contents, contents_of_rows, integer_contents, integer_type};
-ghost use Rattle.column_statistics.specs.Words.{ptype_of_kind, type_of_rows};
+ghost use Rattle.column_statistics.specs.Words.{IsScalarOf, IsSound, IsValueOf, TakeMemory, Values, ptype_of_kind};
+ghost use Rattle.column_statistics.specs.Words.{type_of_format, type_of_rows, value_contents};
 
 use arrow_columns::{
-    BooleanRows, BooleanStatistics, ByteExtremes, ByteStatistics, IntegerRows, Rows,
-    items_are_bytes,
+    BooleanRows, BooleanStatistics, ByteExtremes, ByteStatistics, Format, IntegerExtremes,
+    IntegerRows, LogicalRows, Rows, items_are_bytes,
 };
-use column_cells::{bool_scalar, integer_scalar, scalar_at};
+use column_cells::{bool_scalar, integer_scalar, scalar_at, value_scalar};
+use logical_types::laws::decimal_bytes_sort_as_numbers;
 use std::alloc::Global;
 use vortex_dtype::VortexError;
 use vortex_value::Scalar;
@@ -31,12 +33,12 @@ pub(crate) struct Summary {
 
 /// The summary of a column.
 ///
-/// It is refused only for want of memory, for a value of more than 22 bytes.
+/// It is refused only for want of memory, for a value of more than 22 bytes or of a logical type.
 pub(crate) fn summary_of(alloc: Global, rows: &Rows) -> Result<Summary, VortexError>
     requires { HasTexts rows.now }
     ensures summary { IfOk result
         (AreSummaryOf (type_of_rows rows.now) (contents_of_rows rows.now)) }
-    ensures refused { IfErr result (λ _. HasLong (contents_of_rows rows.now)) }
+    ensures refused { IfErr result (λ _. TakeMemory rows.now) }
 {
     match rows {
         Rows::Integers(integers) => Ok(summary_of_integers(integers)),
@@ -47,6 +49,54 @@ pub(crate) fn summary_of(alloc: Global, rows: &Rows) -> Result<Summary, VortexEr
             null_count: *count,
             extremes: None,
         }),
+        Rows::Values(values) => summary_of_values(alloc, values),
+    }
+}
+
+/// The summary of a column of a logical type: its values sort as their numbers do.
+///
+/// It is refused only for want of memory, for the type of the two values.
+fn summary_of_values(alloc: Global, rows: &LogicalRows) -> Result<Summary, VortexError>
+    requires { HasTexts (Values rows.now) }
+    ensures summary { IfOk result (AreSummaryOf (type_of_format rows.now.format)
+        (value_contents rows.now.format rows.now.column)) }
+{
+    decimal_bytes_sort_as_numbers();
+    let statistics = rows.numbers().statistics();
+    match statistics.extremes {
+        Some(extremes) => {
+            let extremes = value_extremes(alloc, rows.format, extremes)?;
+            Ok(Summary {
+                null_count: statistics.null_count,
+                extremes: Some(extremes),
+            })
+        }
+        None => Ok(Summary {
+            null_count: statistics.null_count,
+            extremes: None,
+        }),
+    }
+}
+
+/// Two values of a format, by their numbers.
+fn value_extremes(
+    alloc: Global,
+    format: Format,
+    numbers: IntegerExtremes,
+) -> Result<Extremes, VortexError>
+    requires sound { IsSound format }
+    requires least { IsValueOf format numbers.least }
+    requires greatest { IsValueOf format numbers.greatest }
+    ensures least { IfOk result (λ e. IsScalarOf format numbers.least e.least) }
+    ensures greatest { IfOk result (λ e. IsScalarOf format numbers.greatest e.greatest) }
+{
+    let least = value_scalar(alloc, format, Some(numbers.least))?;
+    match value_scalar(alloc, format, Some(numbers.greatest)) {
+        Ok(greatest) => Ok(Extremes { least, greatest }),
+        Err(cause) => {
+            drop(least);
+            Err(cause)
+        }
     }
 }
 
@@ -127,7 +177,7 @@ fn summary_at(alloc: Global, rows: &Rows, places: ByteStatistics) -> Result<Summ
     requires places { ArePlacesOf (contents_of_rows rows.now) places }
     ensures summary { IfOk result
         (AreSummaryOf (type_of_rows rows.now) (contents_of_rows rows.now)) }
-    ensures refused { IfErr result (λ _. HasLong (contents_of_rows rows.now)) }
+    ensures refused { IfErr result (λ _. TakeMemory rows.now) }
 {
     match places.extremes {
         Some(extremes) => {
@@ -150,7 +200,7 @@ fn extremes_at(alloc: Global, rows: &Rows, places: ByteExtremes) -> Result<Extre
     requires places { AreExtremesAt (contents_of_rows rows.now) places }
     ensures extremes { IfOk result
         (AreExtremesOf (type_of_rows rows.now) (contents_of_rows rows.now)) }
-    ensures refused { IfErr result (λ _. HasLong (contents_of_rows rows.now)) }
+    ensures refused { IfErr result (λ _. TakeMemory rows.now) }
 {
     let least = scalar_at(alloc, rows, places.least)?;
     match scalar_at(alloc, rows, places.greatest) {

@@ -1,24 +1,29 @@
 //! The values of columns as bytes.
 
-ghost use Rattle.std.specs.Prelude.{◌≡◌, MatchOption};
-ghost use Rattle.column_statistics.specs.Words.{InRange, Integer, IsCellOf, IsItemOf, bytes_of_item, cell_of, null};
-ghost use Rattle.column_statistics.specs.Words.{ptype_of_kind, scalar_content, type_of_kind, whole};
+ghost use Rattle.std.specs.Prelude.{◌≡◌, ℤ, MatchOption};
+ghost use Rattle.column_statistics.specs.Words.{HasContentOf, InRange, Integer, IsCellOf, IsItemOf, Logical};
+ghost use Rattle.column_statistics.specs.Words.{StoresNumber, bytes_of_item, cell_of, content, null, ptype_of_kind};
+ghost use Rattle.column_statistics.specs.Words.{scalar_content, type_of_kind, value_tree, whole};
 
-use arrow_columns::{IntegerKind, Kind};
-use vortex_value::Scalar;
+use arrow_columns::{Format, IntegerKind, Kind};
+use column_items::{StoredItem, item_of_number, stored_number};
+use vortex_value::{Scalar, ScalarValue};
 
 /// A value of a column as bytes: an integer as a buffer of its kind has it, the low byte first, and
-/// strings and bytes as they are. A boolean is one byte, 0 or 1.
+/// strings and bytes as they are. A boolean is one byte, 0 or 1. A value of a logical type is an item of
+/// its format, as a buffer has it. The float 0 has no sign there, and all NaNs are one.
 #[derive(Clone, Copy)]
 pub enum Item<'a> {
     /// A boolean, or an integer of 8 bits.
     One([u8; 1]),
     /// An integer of 16 bits.
     Two([u8; 2]),
-    /// An integer of 32 bits.
+    /// An integer, or a float, of 32 bits.
     Four([u8; 4]),
-    /// An integer of 64 bits.
+    /// An integer, or a float, of 64 bits.
     Eight([u8; 8]),
+    /// A decimal of 128 bits.
+    Sixteen([u8; 16]),
     /// A string, or bytes.
     All(&'a [u8]),
 }
@@ -33,6 +38,7 @@ impl Item<'_> {
             Item::Two(bytes) => bytes,
             Item::Four(bytes) => bytes,
             Item::Eight(bytes) => bytes,
+            Item::Sixteen(bytes) => bytes,
             Item::All(bytes) => bytes,
         }
     }
@@ -41,7 +47,8 @@ impl Item<'_> {
 /// A value of a column of this kind as bytes. `None` for a null.
 #[tactic(auto, using(crate::proofs::ItemLaws::shown))]
 pub fn item_of(kind: Kind, value: &Scalar) -> Option<Item<'_>>
-    requires { IsCellOf (type_of_kind kind) (cell_of value.now) }
+    requires cell { IsCellOf (type_of_kind kind) (cell_of value.now) }
+    requires value { HasContentOf kind (scalar_content value.now) }
     ensures { MatchOption result
         (scalar_content value.now ≡ null)
         (λ item. IsItemOf kind (scalar_content value.now) (bytes_of_item item)) }
@@ -55,6 +62,22 @@ pub fn item_of(kind: Kind, value: &Scalar) -> Option<Item<'_>>
         Kind::Utf8 | Kind::LargeUtf8 => Some(Item::All(value.as_utf8().as_str().as_bytes())),
         Kind::Binary | Kind::LargeBinary => Some(Item::All(value.as_binary().as_slice())),
         Kind::Null => unreachable!(),
+        Kind::Logical(format) => Some(value_item(format, value)),
+    }
+}
+
+/// A value of a format, as an item of it.
+fn value_item(format: Format, value: &ScalarValue) -> Item<'static>
+    requires { (z : ℤ) × StoresNumber format (content (value_tree value.now)) z }
+    ensures { IsItemOf (Logical format) (content (value_tree value.now)) (bytes_of_item result) }
+{
+    let Some(number) = stored_number(format, value) else {
+        unreachable!()
+    };
+    match item_of_number(format, number) {
+        StoredItem::Four(bytes) => Item::Four(bytes),
+        StoredItem::Eight(bytes) => Item::Eight(bytes),
+        StoredItem::Sixteen(bytes) => Item::Sixteen(bytes),
     }
 }
 

@@ -19,7 +19,7 @@ use vortex_value::Scalar;
 ///
 /// The buffers are tested once, and a column that cannot be read is refused with its error. The
 /// least and the greatest value are found in one pass. `OutOfMemory` only for a string, or bytes,
-/// of more than 22 bytes.
+/// of more than 22 bytes, or for values of a logical type.
 pub fn statistics_of(
     alloc: Global,
     column: Column,

@@ -1,17 +1,17 @@
 use Rattle.std.proofs.Common.{[], ◌≡◌, ◌<◌, ◌≤◌, arith, ℕ, ℤ, slice_index_or, subst}
 use Rattle.std.proofs.lemmas.Int.{ints}
 use Rattle.std.specs.Int.{w128}
-use Rattle.arrow_columns.specs.Integers.{IsOfKind, integer_of}
+use Rattle.arrow_columns.specs.Integers.{IsOfKind, number_of}
 use Rattle.arrow_columns.proofs.BufferSteps.{all_within, both_passed, on_true}
 use Rattle.arrow_columns.proofs.casts.all_fit.Goals as goal
 use mir.Val.{of_z, to_z}
 
 pub returns : goal.returns
 returns g c =
-    let V : ℕ → ℤ = λ i. integer_of g.T.Integer.kind (slice_index_or c.args.span.items.now i []) in
+    let V : ℕ → ℤ = λ i. number_of g.T.Item.kind (slice_index_or c.args.span.items.now i []) in
     let kind = g.U.Integer.kind in
-    let least : ℤ = g.T.Integer.number c.without_nulls-gathered.result.least in
-    let greatest : ℤ = g.T.Integer.number c.without_nulls-gathered.result.greatest in
+    let least : ℤ = g.T.Item.number c.without_nulls-gathered.result.least in
+    let greatest : ℤ = g.T.Item.number c.without_nulls-gathered.result.greatest in
     let z : ℤ = to_z w128 (of_z w128 c.whole.result) in
     let y : ℤ = to_z w128 (of_z w128 c.whole-2.result) in
     let low : z ≡ least = omega (arith, ints, c.whole.ensures) in

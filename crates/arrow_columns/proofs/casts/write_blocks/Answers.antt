@@ -3,13 +3,13 @@ use Rattle.std.proofs.Math.Nat.{mul-le-mul_right}
 use Rattle.std.specs.Option.{IfSome}
 use Rattle.arrow_columns.specs.Casts.{AreWritten}
 use Rattle.arrow_columns.specs.Cells.{cell_at}
-use Rattle.arrow_columns.specs.Integers.{IsOfKind, integer_of}
+use Rattle.arrow_columns.specs.Integers.{IsOfKind, number_of}
 use Rattle.arrow_columns.proofs.BufferSteps.{alike_further, more_rows}
 use Rattle.arrow_columns.proofs.casts.write_blocks.Goals as goal
 
 pub loop-b-preserved : goal.loop-b-preserved
 loop-b-preserved g c =
-    let V : ℕ → ℤ = λ i. integer_of g.T.Integer.kind (slice_index_or c.args.span.items.now i []) in
+    let V : ℕ → ℤ = λ i. number_of g.T.Item.kind (slice_index_or c.args.span.items.now i []) in
     let C : ℕ → Option ℤ = cell_at [] V in
     let M : ℕ = g.row.M in
     let from : ℕ = c.args.span.from in

@@ -2,13 +2,13 @@ use Rattle.std.proofs.Common.{[], ◌≡◌, ◌-◌, ◌*◌, ◌≤◌, Option
 use Rattle.std.proofs.Math.Nat.{mul-le-mul_right}
 use Rattle.arrow_columns.specs.Casts.{AllFit}
 use Rattle.arrow_columns.specs.Cells.{cell_at}
-use Rattle.arrow_columns.specs.Integers.{integer_of}
+use Rattle.arrow_columns.specs.Integers.{number_of}
 use Rattle.arrow_columns.proofs.BufferSteps.{fit_before, stop_within}
 use Rattle.arrow_columns.proofs.casts.write_front.Goals as goal
 
 pub write_rows-requires : goal.write_rows-requires
 write_rows-requires g c =
-    let V : ℕ → ℤ = λ i. integer_of g.T.Integer.kind (slice_index_or c.args.span.items.now i []) in
+    let V : ℕ → ℤ = λ i. number_of g.T.Item.kind (slice_index_or c.args.span.items.now i []) in
     let C : ℕ → Option ℤ = cell_at c.args.span.validity.now V in
     let kind = g.U.Integer.kind in
     let from : ℕ = c.args.span.from in

@@ -2,13 +2,13 @@ use Rattle.std.proofs.Common.{[], ◌≡◌, ◌∙◌, ◌-◌, ◌*◌, ◌≤
 use Rattle.std.proofs.Math.Nat.{mul-le-mul_right}
 use Rattle.arrow_columns.specs.Casts.{AllFit}
 use Rattle.arrow_columns.specs.Cells.{cell_at}
-use Rattle.arrow_columns.specs.Integers.{integer_of}
+use Rattle.arrow_columns.specs.Integers.{number_of}
 use Rattle.arrow_columns.proofs.BufferSteps.{alike_further, fit_before, found_after, stop_within}
 use Rattle.arrow_columns.proofs.casts.write_front_by_blocks.Goals as goal
 
 pub write_by_rows-requires : goal.write_by_rows-requires
 write_by_rows-requires g c =
-    let V : ℕ → ℤ = λ i. integer_of g.T.Integer.kind (slice_index_or c.args.span.items.now i []) in
+    let V : ℕ → ℤ = λ i. number_of g.T.Item.kind (slice_index_or c.args.span.items.now i []) in
     let C : ℕ → Option ℤ = cell_at [] V in
     let kind = g.U.Integer.kind in
     let from : ℕ = c.args.span.from in
@@ -50,13 +50,13 @@ write_by_rows-requires g c =
 
 pub returns-clause-found : goal.returns-clause-found
 returns-clause-found g c =
-    let V : ℕ → ℤ = λ i. integer_of g.T.Integer.kind (slice_index_or c.args.span.items.now i []) in
+    let V : ℕ → ℤ = λ i. number_of g.T.Item.kind (slice_index_or c.args.span.items.now i []) in
     found_after g.U.Integer.kind (cell_at [] V) c.args.span.from c.write_blocks-start.result c.args.span.end c.find_without-found.result
     c.write_blocks-start.ensures.from c.write_blocks-start.ensures.fit c.find_without-found.ensures
 
 pub returns-clause-rest : goal.returns-clause-rest
 returns-clause-rest g c =
-    let V : ℕ → ℤ = λ i. integer_of g.T.Integer.kind (slice_index_or c.args.span.items.now i []) in
+    let V : ℕ → ℤ = λ i. number_of g.T.Item.kind (slice_index_or c.args.span.items.now i []) in
     let M : ℕ = g.row.M in
     let from : ℕ = c.args.span.from in
     let start : ℕ = c.write_blocks-start.result in

@@ -3,14 +3,14 @@ use Rattle.std.proofs.Math.Nat.{mul-le-mul_right}
 use Rattle.std.proofs.lemmas.Int.{ints}
 use Rattle.std.proofs.lemmas.List.{get_or_read}
 use Rattle.arrow_columns.specs.Cells.{cell_at}
-use Rattle.arrow_columns.specs.Integers.{integer_of, item_at}
+use Rattle.arrow_columns.specs.Integers.{integer_of, item_at, number_of}
 use Rattle.arrow_columns.proofs.CellLists.{through_number}
 use Rattle.arrow_columns.proofs.BufferSteps.{alike_further, value_or_zero}
 use Rattle.arrow_columns.proofs.casts.write_row.Goals as goal
 
 pub returns-clause-written : goal.returns-clause-written
 returns-clause-written g c =
-    let V : ℕ → ℤ = λ i. integer_of g.T.Integer.kind (slice_index_or c.args.span.items.now i []) in
+    let V : ℕ → ℤ = λ i. number_of g.T.Item.kind (slice_index_or c.args.span.items.now i []) in
     let C : ℕ → Option ℤ = cell_at c.args.span.validity.now V in
     let from : ℕ = c.args.span.from in
     let i : ℕ = c.args.i in
@@ -21,8 +21,8 @@ returns-clause-written g c =
     (λ j b. ap number (c.put.ensures.before j b) ∙ c.requires.written j b)
     (ap number c.put.ensures.here ∙ c.bytes_or_zero-bytes.ensures
     ∙ value_or_zero c.args.span.validity.now V i c.is_row_valid.result _ c.is_row_valid.ensures
-    (through_number _ (g.T.Integer.number c.of_bytes.result) _ (omega (arith, ints, c.whole-whole.ensures))
-    (c.of_bytes.ensures ∙ ap (integer_of g.T.Integer.kind) (get_or_read c.args.span.items.now _ _ (omega arith) c.index-items-i.is [])))
+    (through_number _ (g.T.Item.number c.of_bytes.result) _ (omega (arith, ints, c.whole-whole.ensures))
+    (c.of_bytes.ensures ∙ ap (number_of g.T.Item.kind) (get_or_read c.args.span.items.now _ _ (omega arith) c.index-items-i.is [])))
     ∙ ap (λ k. unwrap_or (C k) (pos 0)) place) k (omega arith)
 
 pub returns-clause-rest : goal.returns-clause-rest

@@ -4,7 +4,7 @@ use Rattle.std.proofs.lemmas.Nat.Bits.{shr_and_one}
 use Rattle.std.specs.Int.{bit_at, int_max, int_min}
 use Rattle.std.specs.Option.{is_none}
 use Rattle.arrow_columns.specs.Cells.{cell_at}
-use Rattle.arrow_columns.specs.Integers.{integer_of}
+use Rattle.arrow_columns.specs.Integers.{number_of}
 use Rattle.arrow_columns.specs.Running.{IsGreatestBefore, IsLeastBefore, nulls_from}
 use Rattle.arrow_columns.proofs.BitCounts.{cell_in_byte, zeros_below, zeros_counted, zeros_step}
 use Rattle.arrow_columns.proofs.CellLists.{count_more}
@@ -13,8 +13,8 @@ use Rattle.arrow_columns.proofs.extremes.by_bytes.Goals as goal
 
 pub loop-j-preserved : goal.loop-j-preserved
 loop-j-preserved g c =
-    let N : g.row.T.Denot → ℤ = g.T.Integer.number in
-    let V : ℕ → ℤ = λ i. integer_of g.T.Integer.kind (slice_index_or c.args.items.now i []) in
+    let N : g.row.T.Denot → ℤ = g.T.Item.number in
+    let V : ℕ → ℤ = λ i. number_of g.T.Item.kind (slice_index_or c.args.items.now i []) in
     let C : ℕ → Option ℤ = cell_at c.args.validity.now V in
     let b : ℕ = c.loop-b.b in
     let j : ℕ = c.loop-j.j in
@@ -23,7 +23,7 @@ loop-j-preserved g c =
     let bit : Bool = bit_at byte j == 1 in
     let x : ℤ = N c.of_bytes-value.result in
     let value : x ≡ V i =
-    c.of_bytes-value.ensures ∙ ap (integer_of g.T.Integer.kind) (get_or_read c.args.items.now _ _ (omega arith) c.index-items-b.is []) in
+    c.of_bytes-value.ensures ∙ ap (number_of g.T.Item.kind) (get_or_read c.args.items.now _ _ (omega arith) c.index-items-b.is []) in
     let cell : C i ≡ cond bit (Some x) None = cell_in_byte c.args.validity.now V b j i x (omega arith) (omega arith) refl value in
     let low : N c.one_of.result ≡ cond bit x (N c.args.gathered.least) =
     ap N (c.one_of.ensures ∙ ap (λ t. cond (t == 1) c.of_bytes-value.result c.args.gathered.least) (shr_and_one byte j)) ∙ of_choice N bit c.of_bytes-value.result c.args.gathered.least in
@@ -43,8 +43,8 @@ loop-j-preserved g c =
 
 pub loop-b-preserved : goal.loop-b-preserved
 loop-b-preserved g c =
-    let N : g.row.T.Denot → ℤ = g.T.Integer.number in
-    let V : ℕ → ℤ = λ i. integer_of g.T.Integer.kind (slice_index_or c.args.items.now i []) in
+    let N : g.row.T.Denot → ℤ = g.T.Item.number in
+    let V : ℕ → ℤ = λ i. number_of g.T.Item.kind (slice_index_or c.args.items.now i []) in
     let C : ℕ → Option ℤ = cell_at c.args.validity.now V in
     let from : ℕ = c.args.from in
     let b : ℕ = c.loop-b.b in
@@ -67,8 +67,8 @@ loop-b-preserved g c =
 
 pub returns : goal.returns
 returns g c =
-    let N : g.row.T.Denot → ℤ = g.T.Integer.number in
-    let V : ℕ → ℤ = λ i. integer_of g.T.Integer.kind (slice_index_or c.args.items.now i []) in
+    let N : g.row.T.Denot → ℤ = g.T.Item.number in
+    let V : ℕ → ℤ = λ i. number_of g.T.Item.kind (slice_index_or c.args.items.now i []) in
     let C : ℕ → Option ℤ = cell_at c.args.validity.now V in
     let from : ℕ = c.args.from in
     let past : 8 * c.loop-b.b ≡ 8 * c.args.end_byte = omega arith in

@@ -6,16 +6,16 @@ use Rattle.arrow_columns.proofs.extremes.by_bytes.Given as goal
 
 abbrev pub invariant-loop-b : goal.invariant-loop-b
 invariant-loop-b g l = record {
-  gathered : AreGathered g.T.Integer.number (cell_of_item g.T.Integer.kind l.validity l.items) l.from (8 * l.b) (record { null_count = l.null_count; least = l.least; greatest = l.greatest });
-  low : g.T.Integer.number l.least ≤ℤ g.T.Integer.number l.low;
-  high : g.T.Integer.number l.high ≤ℤ g.T.Integer.number l.greatest;
+  gathered : AreGathered g.T.Item.number (cell_of_item g.T.Item.kind l.validity l.items) l.from (8 * l.b) (record { null_count = l.null_count; least = l.least; greatest = l.greatest });
+  low : g.T.Item.number l.least ≤ℤ g.T.Item.number l.low;
+  high : g.T.Item.number l.high ≤ℤ g.T.Item.number l.greatest;
 }
 
 abbrev pub invariant-loop-j : goal.invariant-loop-j
 invariant-loop-j g l = record {
-  nulls : l.null_count + zeros_below (slice_index l.validity l.b) l.j ≡ nulls_from (cell_of_item g.T.Integer.kind l.validity l.items) l.from (8 * l.b + l.j - l.from);
-  least : IsLeastBefore (cell_of_item g.T.Integer.kind l.validity l.items) l.from (8 * l.b + l.j) (g.T.Integer.number l.least);
-  greatest : IsGreatestBefore (cell_of_item g.T.Integer.kind l.validity l.items) l.from (8 * l.b + l.j) (g.T.Integer.number l.greatest);
-  low : g.T.Integer.number l.least ≤ℤ g.T.Integer.number l.low;
-  high : g.T.Integer.number l.high ≤ℤ g.T.Integer.number l.greatest;
+  nulls : l.null_count + zeros_below (slice_index l.validity l.b) l.j ≡ nulls_from (cell_of_item g.T.Item.kind l.validity l.items) l.from (8 * l.b + l.j - l.from);
+  least : IsLeastBefore (cell_of_item g.T.Item.kind l.validity l.items) l.from (8 * l.b + l.j) (g.T.Item.number l.least);
+  greatest : IsGreatestBefore (cell_of_item g.T.Item.kind l.validity l.items) l.from (8 * l.b + l.j) (g.T.Item.number l.greatest);
+  low : g.T.Item.number l.least ≤ℤ g.T.Item.number l.low;
+  high : g.T.Item.number l.high ≤ℤ g.T.Item.number l.greatest;
 }

@@ -1,4 +1,4 @@
-use Rattle.arrow_columns.specs.declared.tested_rows.Rows.TheVariants.{Booleans, Bytes, Integers, Strings}
+use Rattle.arrow_columns.specs.declared.tested_rows.Rows.TheVariants.{Booleans, Bytes, Integers, Strings, Values}
 use Rattle.column_cells.proofs.ContentLaws.{length_shown}
 use Rattle.column_cells.proofs.cells.row_count.Goals as goal
 
@@ -13,3 +13,6 @@ returns-in-Strings c = length_shown c.args.rows.now (Strings c.in-Strings.rows) 
 
 pub returns-in-Bytes : goal.returns-in-Bytes
 returns-in-Bytes c = length_shown c.args.rows.now (Bytes c.in-Bytes.rows) c.in-Bytes.is
+
+pub returns-in-Values : goal.returns-in-Values
+returns-in-Values c = length_shown c.args.rows.now (Values c.in-Values.rows) c.in-Values.is

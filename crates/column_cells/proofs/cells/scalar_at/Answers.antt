@@ -1,86 +1,37 @@
-use Rattle.std.proofs.Common.{◌≡◌, ◌<◌, IsSomeAnd, List, Option, Some, length, slice_get, subst, sym, ℕ}
-use Rattle.std.specs.Option.{option_copied}
-use Rattle.arrow_columns.specs.Columns.{boolean_cells, byte_cells, integer_cells}
-use Rattle.arrow_columns.specs.declared.tested_rows.Rows.TheVariants.{Booleans, Bytes, Integers, Nulls, Strings}
+-- The type of the rows and the value of one.
+use Rattle.std.proofs.Common.{◌≡◌, IsSomeAnd, Some, slice_get, subst, sym}
 use Rattle.vortex_dtype.specs.declared.error.VortexError.TheVariants.{OutOfMemory}
-use Rattle.vortex_value.specs.Values.Content.{string, text, truth, whole}
-use Rattle.vortex_value.specs.Values.Scalars.{scalar_content}
-use Rattle.column_cells.specs.Contents.{HasTexts, IsLongContent, content_or_null, contents_of_rows}
-use Rattle.column_cells.proofs.ContentLaws.{content_got, content_shown, err_all, integer_in_range, long_bytes, long_text, null_content_got, ok_all, row_shown, text_valid}
+use Rattle.vortex_value.specs.Validity.{Valid}
+use Rattle.vortex_value.specs.Values.Content.{content}
+use Rattle.vortex_value.specs.Values.RawOf.{raw_of}
+use Rattle.vortex_value.specs.Values.Scalars.{IsValid, scalar_content, scalar_type}
+use Rattle.column_cells.specs.Contents.{IsLongContent, TakesMemory, contents_of_rows}
+use Rattle.column_cells.specs.Types.{type_of_rows}
+use Rattle.column_cells.proofs.ContentLaws.{made_err, made_ok, type_refused, value_refused}
 use Rattle.column_cells.proofs.cells.scalar_at.Goals as goal
-use Rattle.vortex_dtype.specs.declared.buffer.TheConstants.{INLINE_BYTES}
 
-pub integer_at-requires : goal.integer_at-requires
-integer_at-requires c = row_shown c.args.rows.now (Integers c.in-Integers.rows) c.args.row c.in-Integers.is c.requires.row
+pub returns-clause-typed : goal.returns-clause-typed
+returns-clause-typed c =
+    made_ok c.value_at.result c.in_ok-dtype.dtype c.with_value.result (λ v. Valid (type_of_rows c.args.rows.now) (raw_of v)) (λ x. scalar_type x ≡ type_of_rows c.args.rows.now)
+    c.with_value.ensures c.value_at.ensures.valid (λ v h. c.in_ok-dtype.ensures.made)
 
-pub integer_scalar-requires : goal.integer_scalar-requires
-integer_scalar-requires c =
-    integer_in_range c.in-Integers.rows.kind c.in-Integers.rows.column c.args.row c.integer_at.result
-    (row_shown c.args.rows.now (Integers c.in-Integers.rows) c.args.row c.in-Integers.is c.requires.row) c.items_are_bytes.ensures c.integer_at.ensures
+pub returns-clause-content : goal.returns-clause-content
+returns-clause-content c =
+    let got = slice_get (contents_of_rows c.args.rows.now) c.args.row in
+    made_ok c.value_at.result c.in_ok-dtype.dtype c.with_value.result (λ v. got ≡ Some (content (raw_of v))) (λ x. got ≡ Some (scalar_content x))
+    c.with_value.ensures c.value_at.ensures.content (λ v h. h)
 
-pub bool_at-requires : goal.bool_at-requires
-bool_at-requires c = row_shown c.args.rows.now (Booleans c.in-Booleans.rows) c.args.row c.in-Booleans.is c.requires.row
+pub returns-clause-valid : goal.returns-clause-valid
+returns-clause-valid c =
+    made_ok c.value_at.result c.in_ok-dtype.dtype c.with_value.result (λ v. Valid (type_of_rows c.args.rows.now) (raw_of v)) IsValid
+    c.with_value.ensures c.value_at.ensures.valid (λ v h. subst (λ t. Valid t (raw_of v)) (sym c.in_ok-dtype.ensures.made) h)
 
-pub bytes_at-requires : goal.bytes_at-requires
-bytes_at-requires c = row_shown c.args.rows.now (Strings c.in-Strings.rows) c.args.row c.in-Strings.is c.requires.row
+pub returns-clause-refused : goal.returns-clause-refused
+returns-clause-refused c =
+    let got = slice_get (contents_of_rows c.args.rows.now) c.args.row in
+    made_err c.value_at.result c.in_ok-dtype.dtype c.with_value.result (λ e. (e ≡ OutOfMemory) × IsSomeAnd got IsLongContent) (λ e. (e ≡ OutOfMemory) × IsSomeAnd got (TakesMemory c.args.rows.now))
+    c.with_value.ensures c.value_at.ensures.refused (value_refused c.args.rows.now got)
 
-pub text_scalar-requires : goal.text_scalar-requires
-text_scalar-requires c =
-    text_valid (byte_cells c.in-Strings.rows.width c.in-Strings.rows.column) c.args.row (option_copied c.bytes_at.result)
-    (subst HasTexts c.in-Strings.is c.requires.texts) c.bytes_at.ensures
-
-pub bytes_at-requires-in-Bytes : goal.bytes_at-requires-in-Bytes
-bytes_at-requires-in-Bytes c = row_shown c.args.rows.now (Bytes c.in-Bytes.rows) c.args.row c.in-Bytes.is c.requires.row
-
-pub returns-in-Integers-clause-content : goal.returns-in-Integers-clause-content
-returns-in-Integers-clause-content c =
-    content_shown c.args.rows.now (Integers c.in-Integers.rows) c.args.row _ c.in-Integers.is
-    (content_got (content_or_null whole) (integer_cells c.in-Integers.rows.kind c.in-Integers.rows.column) c.args.row c.integer_at.result _ c.integer_at.ensures c.integer_scalar.ensures.content)
-
-pub returns-in-Booleans-clause-content : goal.returns-in-Booleans-clause-content
-returns-in-Booleans-clause-content c =
-    content_shown c.args.rows.now (Booleans c.in-Booleans.rows) c.args.row _ c.in-Booleans.is
-    (content_got (content_or_null truth) (boolean_cells c.in-Booleans.rows.column) c.args.row c.bool_at.result _ c.bool_at.ensures c.bool_scalar.ensures.content)
-
-pub returns-in-Strings-clause-content : goal.returns-in-Strings-clause-content
-returns-in-Strings-clause-content c =
-    let o : Option (List ℕ) = option_copied c.bytes_at.result in
-    ok_all c.text_scalar.result (λ x. scalar_content x ≡ content_or_null text o) (λ x. slice_get (contents_of_rows c.args.rows.now) c.args.row ≡ Some (scalar_content x))
-    (λ x e. content_shown c.args.rows.now (Strings c.in-Strings.rows) c.args.row _ c.in-Strings.is
-    (content_got (content_or_null text) (byte_cells c.in-Strings.rows.width c.in-Strings.rows.column) c.args.row o (scalar_content x) c.bytes_at.ensures e))
-    c.text_scalar.ensures.content
-
-pub returns-in-Strings-clause-refused : goal.returns-in-Strings-clause-refused
-returns-in-Strings-clause-refused c =
-    let o : Option (List ℕ) = option_copied c.bytes_at.result in
-    err_all c.text_scalar.result (λ e. (e ≡ OutOfMemory) × IsSomeAnd o (λ bytes. INLINE_BYTES < length bytes)) (λ e. (e ≡ OutOfMemory) × IsSomeAnd (slice_get (contents_of_rows c.args.rows.now) c.args.row) IsLongContent)
-    (λ e h. (
-      h.0,
-      subst (λ r. IsSomeAnd (slice_get (contents_of_rows r) c.args.row) IsLongContent) (sym c.in-Strings.is)
-          (long_text (byte_cells c.in-Strings.rows.width c.in-Strings.rows.column) c.args.row o c.bytes_at.ensures h.1),
-    ))
-    c.text_scalar.ensures.refused
-
-pub returns-in-Bytes-clause-content : goal.returns-in-Bytes-clause-content
-returns-in-Bytes-clause-content c =
-    let o : Option (List ℕ) = option_copied c.bytes_at-in-Bytes.result in
-    ok_all c.byte_scalar.result (λ x. scalar_content x ≡ content_or_null string o) (λ x. slice_get (contents_of_rows c.args.rows.now) c.args.row ≡ Some (scalar_content x))
-    (λ x e. content_shown c.args.rows.now (Bytes c.in-Bytes.rows) c.args.row _ c.in-Bytes.is
-    (content_got (content_or_null string) (byte_cells c.in-Bytes.rows.width c.in-Bytes.rows.column) c.args.row o (scalar_content x) c.bytes_at-in-Bytes.ensures e))
-    c.byte_scalar.ensures.content
-
-pub returns-in-Bytes-clause-refused : goal.returns-in-Bytes-clause-refused
-returns-in-Bytes-clause-refused c =
-    let o : Option (List ℕ) = option_copied c.bytes_at-in-Bytes.result in
-    err_all c.byte_scalar.result (λ e. (e ≡ OutOfMemory) × IsSomeAnd o (λ bytes. INLINE_BYTES < length bytes)) (λ e. (e ≡ OutOfMemory) × IsSomeAnd (slice_get (contents_of_rows c.args.rows.now) c.args.row) IsLongContent)
-    (λ e h. (
-      h.0,
-      subst (λ r. IsSomeAnd (slice_get (contents_of_rows r) c.args.row) IsLongContent) (sym c.in-Bytes.is)
-          (long_bytes (byte_cells c.in-Bytes.rows.width c.in-Bytes.rows.column) c.args.row o c.bytes_at-in-Bytes.ensures h.1),
-    ))
-    c.byte_scalar.ensures.refused
-
-pub returns-in-Nulls-clause-content : goal.returns-in-Nulls-clause-content
-returns-in-Nulls-clause-content c =
-    content_shown c.args.rows.now (Nulls c.in-Nulls.field-0) c.args.row _ c.in-Nulls.is
-    (null_content_got c.in-Nulls.field-0 c.args.row c.null.result (subst (λ r. c.args.row < length (contents_of_rows r)) c.in-Nulls.is c.requires.row) c.null.ensures.made.value)
+pub returns-in_err-dtype-clause-refused : goal.returns-in_err-dtype-clause-refused
+returns-in_err-dtype-clause-refused c =
+    type_refused c.args.rows.now c.args.row _ _ c.requires.row c.from_residual.ensures c.in_err-dtype.ensures.made c.in_err-dtype.ensures.refused

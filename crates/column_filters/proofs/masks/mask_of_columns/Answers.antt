@@ -13,10 +13,10 @@ pub returns-clause-masked : goal.returns-clause-masked
 returns-clause-masked c = mask-told (formula c.args.filter.now) c.args.columns.now c.args.count c.in_ok-rows.rows.items c.deref.result.now _ _ c.deref.ensures.value c.in_ok-rows.ensures.read c.write_mask.ensures.masked
 
 pub returns-clause-refused : goal.returns-clause-refused
-returns-clause-refused c = memory-refused c.args.columns.now (map type_of c.args.types.now) c.args.count (length c.args.mask.now) _ (omega (arith, c.if-mask-bitmap_length.false)) c.in_ok-rows.ensures.sound c.write_mask.ensures.refused
+returns-clause-refused c = memory-refused (formula c.args.filter.now) c.args.columns.now (map type_of c.args.types.now) c.args.count (length c.args.mask.now) _ (omega (arith, c.if-mask-bitmap_length.false)) c.in_ok-rows.ensures.sound c.write_mask.ensures.refused
 
 pub returns-clause-kept : goal.returns-clause-kept
 returns-clause-kept c = memory-kept _ _ c.write_mask.ensures.refused
 
 pub returns-in_err-rows-clause-refused : goal.returns-in_err-rows-clause-refused
-returns-in_err-rows-clause-refused c = mask-refused c.args.columns.now (map type_of c.args.types.now) c.args.count (length c.args.mask.now) _ _ c.from_residual.ensures (omega (arith, c.if-mask-bitmap_length.false)) c.in_err-rows.ensures.fault
+returns-in_err-rows-clause-refused c = mask-refused (formula c.args.filter.now) c.args.columns.now (map type_of c.args.types.now) c.args.count (length c.args.mask.now) _ _ c.from_residual.ensures (omega (arith, c.if-mask-bitmap_length.false)) c.in_err-rows.ensures.fault

@@ -1,30 +1,51 @@
--- One column more, and the first error.
-use Rattle.std.proofs.Common.{◌≡◌, arith, length, map}
+-- One column more, and the first error of a named one.
+use Rattle.std.proofs.Common.{◌≡◌, ◌∙◌, ◌<◌, arith, length, map, subst, sym}
 use Rattle.std.proofs.lemmas.List.{length-map}
 use Rattle.vortex_dtype.specs.TypeOf.{type_of}
-use Rattle.column_cells.proofs.TableSteps.{sound-more}
-use Rattle.column_filters.proofs.ColumnSteps.{read-more, read_typed, table-fault-typed, table-refused}
-use Rattle.column_filters.specs.Tables.{IsSoundAt}
+use Rattle.vortex_filter.specs.Formula.{formula}
+use Rattle.column_filters.proofs.ColumnSteps.{flag_is, place-more, read_if_typed, table-fault-typed, table-refused}
+use Rattle.column_filters.proofs.NamedSteps.{is_named}
+use Rattle.column_filters.specs.Tables.{IsTableError}
 use Rattle.column_filters.specs.declared.errors.MaskError.TheVariants.{OutOfMemory}
 use Rattle.column_filters.proofs.tables.read_columns.Goals as goal
 
+pub returns-in_err-named-clause-fault : goal.returns-in_err-named-clause-fault
+returns-in_err-named-clause-fault c =
+    let f = formula c.args.filter.now in
+    let types = map type_of c.args.types.now in
+    let counts : length c.args.columns.now ≡ length types = omega (arith, c.if-columns-types.false, length-map c.args.types.now type_of) in
+    table-refused f c.args.columns.now types c.args.count _ _ c.from_residual.ensures (subst (IsTableError f c.args.columns.now types c.args.count) (sym c.in_err-named.ensures.refused) counts)
+
 pub returns-in_err-table-clause-fault : goal.returns-in_err-table-clause-fault
 returns-in_err-table-clause-fault c =
-    let counts : length c.args.columns.now ≡ length (map type_of c.args.types.now) = omega (arith, c.if-columns-types.false, length-map c.args.types.now type_of) in
-    table-refused c.args.columns.now (map type_of c.args.types.now) c.args.count _ OutOfMemory c.from_residual.ensures counts
+    let types = map type_of c.args.types.now in
+    let counts : length c.args.columns.now ≡ length types = omega (arith, c.if-columns-types.false, length-map c.args.types.now type_of) in
+    table-refused (formula c.args.filter.now) c.args.columns.now types c.args.count _ OutOfMemory c.from_residual-in_err-table.ensures counts
 
 pub returns-in_err-rows-clause-fault : goal.returns-in_err-rows-clause-fault
 returns-in_err-rows-clause-fault c =
-    table-refused c.args.columns.now (map type_of c.args.types.now) c.args.count _ _ c.from_residual-in_err-rows.ensures
-    (table-fault-typed c.args.columns.now c.args.types.now c.args.count c.loop-place.place _ c.index-types-place.result _ (omega (arith, c.if-columns-types.false)) c.loop-place-test.true c.index-types-place.is c.loop-place.invariant.1
-    c.in_err-rows.ensures.fault)
+    let f = formula c.args.filter.now in
+    let columns = c.args.columns.now in
+    let place = c.loop-place.place in
+    let flag = flag_is f (length columns) place c.is_set.result c.deref.result.now c.in_ok-named.named.items c.is_set.ensures c.deref.ensures.value c.in_ok-named.ensures.named in
+    table-refused f columns (map type_of c.args.types.now) c.args.count _ _ c.from_residual-in_err-rows.ensures
+    (table-fault-typed f columns c.args.types.now c.args.count place _ c.index-types-place.result _ (omega (arith, c.if-columns-types.false)) c.loop-place-test.true (is_named f (length columns) place (flag ∙ c.in_err-rows.ensures.fault.0))
+    c.index-types-place.is c.loop-place.invariant.1 c.in_err-rows.ensures.fault.1)
 
 pub loop-place-preserved : goal.loop-place-preserved
 loop-place-preserved c =
+    let f = formula c.args.filter.now in
+    let columns = c.args.columns.now in
+    let types = c.args.types.now in
+    let place = c.loop-place.place in
     let here = c.loop-place-test.true in
-    let read = read_typed c.args.types.now c.loop-place.place c.index-types-place.result _ _ _ (omega (arith, c.if-columns-types.false, here)) c.index-types-place.is c.in_ok-rows.ensures.read in (
-      read-more c.args.columns.now _ c.args.count c.loop-place.place _ c.loop-place.table.items c.push_reserved.new.self.items _ here c.loop-place.invariant.0 c.in_ok-rows.ensures.read c.push_reserved.ensures.items,
-      sound-more (IsSoundAt (map type_of c.args.types.now) c.args.count) c.args.columns.now c.loop-place.place _ here c.loop-place.invariant.1 read.sound,
+    let typed : place < length types = omega (arith, c.if-columns-types.false, here) in
+    let many : length c.loop-place.table.items ≡ place = omega (arith, c.loop-place.invariant.2) in
+    let flag = flag_is f (length columns) place c.is_set.result c.deref.result.now c.in_ok-named.named.items c.is_set.ensures c.deref.ensures.value c.in_ok-named.ensures.named in
+    let read = read_if_typed types place c.index-types-place.result _ _ c.args.count _ typed c.index-types-place.is c.in_ok-rows.ensures.read in
+    let more = place-more f columns (map type_of types) c.args.count place (length columns) _ c.loop-place.table.items c.push_reserved.new.self.items _ c.is_set.result here here many flag c.loop-place.invariant.0 c.loop-place.invariant.1 read c.push_reserved.ensures.items in (
+      more.0,
+      more.1,
       omega (arith, c.push_reserved.ensures.len, c.loop-place.invariant.2),
       omega (arith, c.push_reserved.ensures.capacity, c.loop-place.invariant.3),
     )

@@ -4,11 +4,13 @@ use Rattle.arrow_columns.specs.Columns.{rows_in}
 use Rattle.column_cells.proofs.TableSteps.{sound-more}
 use Rattle.column_keys.proofs.ColumnSteps.{read-more, table-fault, table-refused}
 use Rattle.column_keys.specs.Tables.{IsSoundAt}
-use Rattle.column_keys.specs.declared.errors.TableError.TheVariants.{OutOfMemory}
 use Rattle.column_keys.proofs.key_columns.read_columns.Goals as goal
 
-pub returns-in_err-table-clause-fault : goal.returns-in_err-table-clause-fault
-returns-in_err-table-clause-fault c = table-refused c.args.columns.now c.args.options.now _ OutOfMemory c.from_residual.ensures (omega (arith, c.if-options-columns.false))
+pub returns-in_err-expect_columns-clause-fault : goal.returns-in_err-expect_columns-clause-fault
+returns-in_err-expect_columns-clause-fault c = table-refused c.args.columns.now c.args.options.now _ _ c.from_residual.ensures c.in_err-expect_columns.ensures.fault
+
+pub returns-in_default-clause-fault : goal.returns-in_default-clause-fault
+returns-in_default-clause-fault c = (omega (arith, c.if-options-columns.false), c.in_ok-expect_columns.ensures.sound)
 
 pub returns-in_err-column-clause-fault : goal.returns-in_err-column-clause-fault
 returns-in_err-column-clause-fault c =

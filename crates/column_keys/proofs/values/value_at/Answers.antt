@@ -1,5 +1,5 @@
 -- Each kind of column has the row, and its content is that of the cell.
-use Rattle.column_keys.proofs.ValueSteps.{boolean-got, boolean-within, byte-got, byte-within, integer-got, integer-held, integer-within, string-got, string-valid, string-within}
+use Rattle.column_keys.proofs.ValueSteps.{boolean-got, boolean-within, byte-got, byte-within, integer-got, integer-held, integer-within, string-got, string-valid, string-within, value-got, value-valid, value-within}
 use Rattle.column_keys.proofs.values.value_at.Goals as goal
 
 pub integer_at-requires : goal.integer_at-requires
@@ -32,3 +32,12 @@ returns-in-Strings c = string-got c.args.rows.now c.in-Strings.rows c.args.row _
 
 pub returns-in-Bytes : goal.returns-in-Bytes
 returns-in-Bytes c = byte-got c.args.rows.now c.in-Bytes.rows c.args.row _ _ c.in-Bytes.is c.bytes_at-in-Bytes.ensures c.byte_value.ensures
+
+pub number_at-requires : goal.number_at-requires
+number_at-requires c = value-within c.args.rows.now c.in-Values.rows c.numbers.result c.args.row c.in-Values.is c.numbers.ensures.column c.requires.row
+
+pub logical_value-requires : goal.logical_value-requires
+logical_value-requires c = value-valid c.args.rows.now c.in-Values.rows c.numbers.result c.args.row c.number_at.result c.in-Values.is c.requires.texts c.numbers.ensures.kind c.numbers.ensures.column c.number_at.ensures
+
+pub returns-in-Values : goal.returns-in-Values
+returns-in-Values c = value-got c.args.rows.now c.in-Values.rows c.numbers.result c.args.row c.number_at.result _ c.in-Values.is c.numbers.ensures.kind c.numbers.ensures.column c.number_at.ensures c.logical_value.ensures

@@ -1,5 +1,7 @@
+-- Both pieces are encodings of the type, and so is what is merged of them; else the first that is none decides.
 use Rattle.std.proofs.Common.{inr}
 use Rattle.column_cells.specs.Types.{type_of_kind}
+use Rattle.vortex_dtype.specs.TypeOf.{type_of}
 use Rattle.vortex_statistics.specs.Statistics.{known}
 use Rattle.column_statistics.proofs.EncodingLaws.{first_wrong, merged_encoding_of, merged_keyed, second_wrong}
 use Rattle.column_statistics.proofs.encodings.merged_encoding.Goals as goal
@@ -7,37 +9,37 @@ use Rattle.column_statistics.proofs.encodings.merged_encoding.Goals as goal
 pub written-requires : goal.written-requires
 written-requires c =
     let h = c.in-Ok-merge.ensures in
-    merged_keyed (type_of_kind c.args.kind) c.args.one.now c.args.other.now (known c.in-Ok.first) (known c.in-Ok-read_encoding.second) (known c.in-Ok-merge.both) c.in-Ok.ensures.read c.in-Ok-read_encoding.ensures.read h.fits h.value
+    merged_keyed (type_of_kind c.args.kind) c.args.one.now c.args.other.now (known c.in-Ok-read_as.first) (known c.in-Ok-read_as-2.second) (known c.in-Ok-merge.both) c.in-Ok-read_as.ensures.read c.in-Ok-read_as-2.ensures.read h.fits h.value
 
 pub returns-in-Some-clause-encoding : goal.returns-in-Some-clause-encoding
 returns-in-Some-clause-encoding c =
     let h = c.in-Ok-merge.ensures in
-    merged_encoding_of (type_of_kind c.args.kind) c.args.one.now c.args.other.now c.in-Some.bytes.items (known c.in-Ok.first) (known c.in-Ok-read_encoding.second) (known c.in-Ok-merge.both)
-    c.in-Ok.ensures.read c.in-Ok-read_encoding.ensures.read h.fits h.value h.right c.in-Some.ensures.written
+    merged_encoding_of (type_of_kind c.args.kind) (type_of c.in-Ok.dtype) c.args.one.now c.args.other.now c.in-Some.bytes.items (known c.in-Ok-read_as.first) (known c.in-Ok-read_as-2.second) (known c.in-Ok-merge.both)
+    c.in-Ok.ensures.made c.in-Ok-read_as.ensures.read c.in-Ok-read_as-2.ensures.read h.fits h.value h.right c.in-Some.ensures.written
 
 pub returns-in-Err-clause-refused : goal.returns-in-Err-clause-refused
 returns-in-Err-clause-refused c =
-    first_wrong (type_of_kind c.args.kind) c.args.one.now c.args.other.now c.in-Err.fault c.fault_of_piece.result c.fault_of_piece.ensures c.in-Err.ensures.refused
+    first_wrong c.args.kind c.args.one.now c.args.other.now c.in-Err.fault c.fault_of_piece.result c.fault_of_piece.ensures c.in-Err.ensures.refused
 
-pub returns-in-Err-read_encoding-clause-refused : goal.returns-in-Err-read_encoding-clause-refused
-returns-in-Err-read_encoding-clause-refused c =
-    second_wrong (type_of_kind c.args.kind) c.args.one.now c.args.other.now (known c.in-Ok.first) c.in-Err-read_encoding.fault c.fault_of_piece-in-Err-read_encoding.result c.fault_of_piece-in-Err-read_encoding.ensures
-    c.in-Ok.ensures.read c.in-Err-read_encoding.ensures.refused
+pub returns-in-Err-read_as-clause-refused : goal.returns-in-Err-read_as-clause-refused
+returns-in-Err-read_as-clause-refused c =
+    second_wrong c.args.kind c.args.one.now c.args.other.now (known c.in-Ok-read_as.first) c.in-Err-read_as.fault c.fault_of_piece-in-Err-read_as.result c.fault_of_piece-in-Err-read_as.ensures
+    c.in-Ok-read_as.ensures.read c.in-Err-read_as.ensures.refused
 
 pub returns-in-Err-merge-clause-refused : goal.returns-in-Err-merge-clause-refused
 returns-in-Err-merge-clause-refused c = record {
-  first = known c.in-Ok.first;
-  second = known c.in-Ok-read_encoding.second;
-  is_first = c.in-Ok.ensures.read;
-  is_second = c.in-Ok-read_encoding.ensures.read;
+  first = known c.in-Ok-read_as.first;
+  second = known c.in-Ok-read_as-2.second;
+  is_first = c.in-Ok-read_as.ensures.read;
+  is_second = c.in-Ok-read_as-2.ensures.read;
   many = c.in-Err-merge.ensures.refused.1;
 }
 
 pub returns-clause-refused : goal.returns-clause-refused
-returns-clause-refused c = inr (inr (record {
-  first = known c.in-Ok.first;
-  second = known c.in-Ok-read_encoding.second;
-  is_first = c.in-Ok.ensures.read;
-  is_second = c.in-Ok-read_encoding.ensures.read;
+returns-clause-refused c = inr (inr (inr (record {
+  first = known c.in-Ok-read_as.first;
+  second = known c.in-Ok-read_as-2.second;
+  is_first = c.in-Ok-read_as.ensures.read;
+  is_second = c.in-Ok-read_as-2.ensures.read;
   few = c.in-Ok-merge.ensures.fits;
-}))
+})))

@@ -1,0 +1,6 @@
+-- The bytes are those of the number.
+use Rattle.column_items.proofs.ByteSteps.{back_16}
+use Rattle.column_items.proofs.items.i128_bytes.Goals as goal
+
+pub returns : goal.returns
+returns c = back_16 c.args.number c.to_le_bytes.result c.ranges.number c.to_le_bytes.ensures

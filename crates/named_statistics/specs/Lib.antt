@@ -1,0 +1,5 @@
+pub mod Examples
+pub mod Heads
+pub mod Laws
+pub mod Named
+pub mod Words

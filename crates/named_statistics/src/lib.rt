@@ -1,0 +1,11 @@
+// SPDX-License-Identifier: Apache-2.0
+//! Statistics of a column as bytes that name its logical type, and back from them.
+#![tactic(auto)]
+
+mod heads;
+pub mod laws;
+mod reading;
+mod writing;
+
+pub use reading::{decode_named_piece_into, decode_named_statistics};
+pub use writing::append_named_statistics;
