@@ -19,7 +19,7 @@
  * - `malloc`, `realloc` and `free` are of one allocator, and no call comes from a signal handler.
  * Calls on different threads need no lock: nothing is kept from one call to the next.
  *
- * Stack: a call takes at most 6 kilobytes of it, or 12 of statistics, whatever it is given. That was measured, on x86-64; no
+ * Stack: a call takes at most 6 kilobytes of it, or 14 of statistics, whatever it is given. That was measured, on x86-64; no
  * contract speaks of stack. doqallin_call says what it takes. Calls of filters take more for each level that nests, of
  * which `depth` says how many there may be: with 32 none ends a process on a thread of 256 kilobytes. */
 #ifndef DOQALLIN_H
@@ -44,7 +44,7 @@ enum {
     DOQALLIN_NO_MEMORY = 2,     /* an allocation was refused */
     DOQALLIN_BUFFER_TOO_SMALL = 3, /* a buffer is too small: the lengths that are needed are written, if any, and nothing else */
     DOQALLIN_NOT_UTF8 = 4,      /* bytes that are to be a string are not UTF-8 */
-    DOQALLIN_NOT_A_NUMBER = 5,  /* a code names no integer type, or the bits stand for no number of the type */
+    DOQALLIN_NOT_A_NUMBER = 5,  /* a code names no integer type, or the bits are no number of the type */
     DOQALLIN_BAD_OFFSETS = 6,   /* offsets go down, or past the end of the bytes */
     DOQALLIN_UNKNOWN_KIND = 7,  /* a code is of no kind that the call takes */
     DOQALLIN_TOO_MANY_ROWS = 8, /* offset and length of a column, or the rows of two pieces, are together 2^64 or more */
@@ -52,7 +52,8 @@ enum {
     DOQALLIN_BAD_BYTES = 10,    /* bytes are not of the encoding that is read */
     DOQALLIN_BAD_FILTER = 11,   /* words are no filter */
     DOQALLIN_WRONG_LENGTH = 12, /* numbers of columns, of rows or of options differ that are to be equal */
-    DOQALLIN_BAD_OPTIONS = 13   /* a byte stands for no options */
+    DOQALLIN_BAD_OPTIONS = 13,  /* a byte of options is above 3 */
+    DOQALLIN_NOT_A_VALUE = 14   /* a number is of no value of the column's logical type */
 };
 
 /* The integer types. The 64 bits of a number of a signed type are in two's complement: (uint64_t)(int64_t)-5. */
@@ -64,16 +65,41 @@ enum { DOQALLIN_U8, DOQALLIN_U16, DOQALLIN_U32, DOQALLIN_U64, DOQALLIN_I8, DOQAL
  * NOT_A_NUMBER: a code is not below 8, or `bits` are of no number of the type `from` (256 is no u8). */
 uint32_t doqallin_cast_integer(uint8_t from, uint64_t bits, uint8_t to, uint64_t *out);
 
-/* Kinds of columns: the codes of the integer types (dates, times and the like go by theirs), and then these. Strings and bytes
- * have offsets of 32 bits, and the large ones of 64. */
+/* Kinds of columns: the codes of the integer types, and then these. Strings and bytes have offsets of 32 bits, and the large ones
+ * of 64. */
 enum { DOQALLIN_BOOL = 8, DOQALLIN_UTF8, DOQALLIN_LARGE_UTF8, DOQALLIN_BINARY, DOQALLIN_LARGE_BINARY, DOQALLIN_NULL };
 
+/* Kinds of columns of logical types. Floats sort as in PostgreSQL: a NaN equals each other NaN and is above infinity, and both zeros
+ * are equal. Dates are days since 1970-01-01, of 32 bits. Times are since midnight, of 32 bits for seconds and milliseconds, and
+ * else of 64. Timestamps are since 1970-01-01T00:00:00, of 64 bits; those with a zone count in UTC, whatever its name is. Decimals
+ * are integers of so many bits, times 10 to the scale, and only they have a precision: to 9, 18 and 38 digits. Arrow's date64 is
+ * read as DOQALLIN_TIMESTAMP_MS. */
+enum {
+    DOQALLIN_F32 = 14, DOQALLIN_F64, DOQALLIN_DATE32,
+    DOQALLIN_TIME_S, DOQALLIN_TIME_MS, DOQALLIN_TIME_US, DOQALLIN_TIME_NS,
+    DOQALLIN_TIMESTAMP_S, DOQALLIN_TIMESTAMP_MS, DOQALLIN_TIMESTAMP_US, DOQALLIN_TIMESTAMP_NS,
+    DOQALLIN_TIMESTAMP_S_UTC, DOQALLIN_TIMESTAMP_MS_UTC, DOQALLIN_TIMESTAMP_US_UTC, DOQALLIN_TIMESTAMP_NS_UTC,
+    DOQALLIN_DECIMAL32, DOQALLIN_DECIMAL64, DOQALLIN_DECIMAL128
+};
+
+/* A kind by its code. Only decimals have a precision, how many digits a number has at most, and a scale, how many of them are
+ * behind the point; of other kinds neither is read. Decimals without them are of no kind: a call that takes a code alone takes
+ * none, and a call of the same name with `typed` takes a doqallin_kind. */
+struct doqallin_kind {
+    uint8_t code;
+    uint8_t precision;
+    uint8_t scale;
+};
+
 /* A column as the Arrow C data interface lays it out: rows offset to offset + length of its buffers. `validity` has a bit for
- * each row, 0 where it is null, or no byte if none is. `values` are the integers, bits, or the bytes of all rows. `offsets` are
- * of strings and bytes alone. A column without rows may have any offset, and no bytes in a buffer.
+ * each row, 0 where it is null, or no byte if none is. `values` are the items, bits, or the bytes of all rows. `offsets` are
+ * of strings and bytes alone. A column without rows may have any offset, and no bytes in a buffer. A row of a logical type is
+ * tested, if it is not null: a time of 25 hours, or too many digits, is NOT_A_VALUE. Each bit pattern is a float.
  * Buffers may have any alignment. */
 struct doqallin_column {
     uint8_t kind;
+    uint8_t precision; /* of decimals alone, as in doqallin_kind; it is where there was padding */
+    uint8_t scale;
     const uint8_t *validity;
     size_t validity_length;
     const uint8_t *values;
@@ -91,8 +117,8 @@ struct doqallin_fault {
     size_t place;
 };
 
-/* Casts a column of integers to the type `to`, all rows or none. Takes no memory. If several statuses fit, the first of
- * these comes:
+/* Casts a column of integers to the type `to`, all rows or none. A column of a logical type is none of integers. Takes no memory. If
+ * several statuses fit, the first of these comes:
  * UNKNOWN_KIND: exactly if a code is not below 8: `to` with fault->column 1, and else column->kind with 0. fault->place is 0.
  * TOO_MANY_ROWS: exactly if there is a row and column->offset + column->length is 2^64 or more. fault->column and fault->place
  * are 0.
@@ -178,17 +204,19 @@ uint32_t doqallin_column_bounds_text(const uint8_t *bytes, size_t bytes_length, 
                                      struct doqallin_bound_lengths *lengths);
 
 /* The keys of the rows of some columns (docs/KEYS.md): bytes that compare as the rows do, column by column. The key of row k is
- * the bytes of the buffer from offsets_buffer[k] to offsets_buffer[k + 1]. A column has a byte of options: 1 for greater values
- * first, 2 for nulls first, or the sum. If several statuses but GIVEN fit, the first of these comes: WRONG_LENGTH of the options,
- * the mistake of the first column that has one, BUFFER_TOO_SMALL.
+ * the bytes of the buffer from offsets_buffer[k] to offsets_buffer[k + 1]. The key of a float, a date or a decimal is that of the
+ * integer or the bytes that store it: which of these it is, the kind says when it is read back. A column has a byte of options: 1
+ * for greater values first, 2 for nulls first, or the sum. If several statuses but GIVEN fit, the first of these comes:
+ * WRONG_LENGTH of the options, the mistake of the first column that has one, BUFFER_TOO_SMALL.
  * GIVEN: the keys have the first *count bytes of the buffer; those after it are as they were.
  * BUFFER_TOO_SMALL: *count, which is all that is written, is how many bytes the keys have: above buffer_length, or
  * offsets_buffer lacks one for each row and one more. A call without a buffer asks for it.
  * WRONG_LENGTH: the options are not as many as the columns, and fault->column is the number of columns; or that column has
  * another number of rows than the first.
  * BAD_OPTIONS: the byte of fault->column is above 3.
- * UNKNOWN_KIND, TOO_MANY_ROWS, TOO_SHORT, BAD_OFFSETS, NOT_UTF8: fault->column cannot be read, for what is at fault->place.
- * NO_MEMORY: memory is asked for each column, and not before the options are counted. */
+ * UNKNOWN_KIND, TOO_MANY_ROWS, TOO_SHORT, BAD_OFFSETS, NOT_UTF8, NOT_A_VALUE: fault->column cannot be read, for what is at
+ * fault->place.
+ * NO_MEMORY: only if each column and its options are right. Memory is asked for each column. */
 uint32_t doqallin_row_keys(const struct doqallin_column *columns, size_t column_count, const uint8_t *options,
                            size_t options_length, uint64_t *offsets_buffer, size_t offsets_buffer_length, uint8_t *buffer,
                            size_t buffer_length, size_t *count, struct doqallin_fault *fault);
@@ -209,9 +237,9 @@ struct doqallin_column_buffers {
  * doqallin_row_keys has them. The key of row k goes from offsets[k] to offsets[k + 1], so that n rows have n + 1 offsets; no rows
  * may have none. Keys may come from anywhere: each is tested first, and read once.
  * GIVEN: of each column `validity` has a bit for each row, 0 for a null, in its first (n + 7) / 8 bytes. `values` begins with
- * `count` bytes: items of the kind, 0 for a null; bits of booleans; or the bytes of all strings, none for a null. Of strings and
- * bytes `offsets` begins with n + 1 offsets, of 64 bits each, also for the kinds with offsets of 32 bits; of other kinds it is not
- * written. What follows stays as it was.
+ * `count` bytes: items of the kind, 0 for a null; bits of booleans; or the bytes of all strings, none for a null. A zero of floats
+ * has no sign, and each NaN has the same bits. Of strings and bytes `offsets` begins with n + 1 offsets, of 64 bits each, also for
+ * the kinds with offsets of 32 bits; of other kinds it is not written. What follows stays as it was.
  * BUFFER_TOO_SMALL: a buffer is too short. The counts, which are all that is written, say how many bytes the values of each column
  * have. A call without buffers asks for them.
  * WRONG_LENGTH: the options are not as many as the kinds, or the columns are not. fault->column is the number of kinds.
@@ -219,19 +247,27 @@ struct doqallin_column_buffers {
  * BAD_OFFSETS: the offsets of the key fault->place go down, or past the end of the bytes.
  * BAD_BYTES: a key is of no row of the kinds. fault->place is the first of all bytes that none has there, or the end of a key that
  * ends too early. Of these two the first key decides.
- * NO_MEMORY: may come in place of all but WRONG_LENGTH. Memory is asked for each column, and for the values of all rows at once.
+ * NOT_A_VALUE: the key fault->place stores no value of the logical type of fault->column.
+ * NO_MEMORY: only if each kind and its options are right. Memory is asked for each column, and for the values of all rows at once.
  * Under each status but GIVEN the buffers stay as they were. */
 uint32_t doqallin_columns_of_row_keys(const uint8_t *kinds, size_t kinds_length, const uint8_t *options, size_t options_length,
                                       const uint64_t *offsets, size_t offsets_length, const uint8_t *bytes, size_t bytes_length,
                                       struct doqallin_column_buffers *columns, size_t column_count, struct doqallin_fault *fault);
 
+/* The same of any kinds, decimals too. */
+uint32_t doqallin_columns_of_typed_keys(const struct doqallin_kind *kinds, size_t kinds_length, const uint8_t *options,
+                                        size_t options_length, const uint64_t *offsets, size_t offsets_length,
+                                        const uint8_t *bytes, size_t bytes_length, struct doqallin_column_buffers *columns,
+                                        size_t column_count, struct doqallin_fault *fault);
+
 /* The statistics of a column in their stable encoding (docs/STATISTICS.md): its counts, and its least and its greatest value. If
- * these are strings or bytes, they are cut to max_length bytes: then they are bounds, and no values.
+ * these are strings or bytes, they are cut to max_length bytes: then they are bounds, and no values. Of floats a NaN is the
+ * greatest value, if there is one. Statistics of a logical type name it.
  * GIVEN: the encoding has the first *count bytes of the buffer; those after it are as they were.
  * BUFFER_TOO_SMALL: *count, which is all that is written, is how many bytes the encoding has: above buffer_length. A call
  * without a buffer asks for it.
- * UNKNOWN_KIND, TOO_MANY_ROWS, TOO_SHORT, BAD_OFFSETS, NOT_UTF8: the column cannot be read, for what is at fault->place.
- * fault->column is 0.
+ * UNKNOWN_KIND, TOO_MANY_ROWS, TOO_SHORT, BAD_OFFSETS, NOT_UTF8, NOT_A_VALUE: the column cannot be read, for what is at
+ * fault->place. fault->column is 0.
  * NO_MEMORY: only if the column can be read. No clause says more; in the code, memory is asked for the encoding, and for a least
  * and a greatest value of more than 22 bytes, and none for each row. */
 uint32_t doqallin_column_statistics(const struct doqallin_column *column, size_t max_length, uint8_t *buffer,
@@ -243,12 +279,18 @@ uint32_t doqallin_column_statistics(const struct doqallin_column *column, size_t
  * UNKNOWN_KIND: exactly if `kind` is of no kind. fault->column and fault->place are 0.
  * BAD_BYTES: fault->column is 0 or 1, the first piece that is no encoding of statistics of the kind. fault->place is its first
  * byte that no such encoding has there, or its length if it ends too early.
+ * NOT_A_VALUE: a bound of the piece fault->column is no value of the logical type. fault->place is 0.
  * TOO_MANY_ROWS: both are such encodings, and 64 bits do not count the rows of both. fault->column and fault->place are 0.
- * NO_MEMORY: only if the first piece says a bound; or if it is such an encoding, and the second says one; or if both can be
- * merged. */
+ * NO_MEMORY: only if the kind is of a logical type; if the first piece says a bound; or if it is such an encoding, and the second
+ * says one; or if both can be merged. */
 uint32_t doqallin_merge_statistics(uint8_t kind, const uint8_t *one, size_t one_length, const uint8_t *other,
                                    size_t other_length, uint8_t *buffer, size_t buffer_length, size_t *count,
                                    struct doqallin_fault *fault);
+
+/* The same of any kind, decimals too. */
+uint32_t doqallin_merge_typed(const struct doqallin_kind *kind, const uint8_t *one, size_t one_length, const uint8_t *other,
+                              size_t other_length, uint8_t *buffer, size_t buffer_length, size_t *count,
+                              struct doqallin_fault *fault);
 
 /* What statistics say, but for the bytes of the bounds: how many rows there are, and in how many the cell is null (0 if that is
  * not known). A bound is exact if some value is equal to it. One that is not there is not exact, and has no bytes. */
@@ -265,24 +307,32 @@ struct doqallin_statistics_parts {
 };
 
 /* The statistics of a column of this kind that have this encoding. If they were written of a column, no value of it is below the
- * lower bound, or above the upper one. A bound that is an integer has its bytes in a buffer of the kind, the low one first. A
- * bool is a byte, 0 or 1, and strings and bytes are as they are. In bytes from anywhere a bound may be null: it is told as none,
- * which says less. Two buffers of 8 bytes, or of bytes_length if that is more, suffice.
+ * lower bound, or above the upper one. A bound that is an integer, a float, a decimal, a date or a time is an item of the kind, its
+ * low byte first. A bool is a byte, 0 or 1, and strings and bytes are as they are. In bytes from anywhere a bound may be null: it
+ * is reported as missing, which says less. Two buffers of 8 bytes, of decimals 16, or of bytes_length if that is more, suffice.
  * GIVEN: the bounds are in the first bytes of the buffers, as *parts says; the bytes after them are as they were.
  * BUFFER_TOO_SMALL: a buffer has fewer bytes than its bound; *parts says all the same, how many bytes each bound has too.
  * UNKNOWN_KIND: exactly if `kind` is of no kind. fault->column and fault->place are 0.
  * BAD_BYTES: the bytes are no encoding of statistics of the kind. fault->place is the first byte that no such encoding has
  * there, or bytes_length if they end too early. fault->column is 0.
- * NO_MEMORY: only if the bytes say that there is a bound. */
+ * NOT_A_VALUE: a bound is no value of the logical type. fault->column and fault->place are 0.
+ * NO_MEMORY: only if the bytes say that there is a bound, or the kind is of a logical type. */
 uint32_t doqallin_read_statistics(uint8_t kind, const uint8_t *bytes, size_t bytes_length, uint8_t *lower_buffer,
                                   size_t lower_buffer_length, uint8_t *upper_buffer, size_t upper_buffer_length,
                                   struct doqallin_statistics_parts *parts, struct doqallin_fault *fault);
 
-/* A column that a filter may name: its name, in UTF-8, and its kind. */
+/* The same of any kind, decimals too. */
+uint32_t doqallin_read_typed(const struct doqallin_kind *kind, const uint8_t *bytes, size_t bytes_length, uint8_t *lower_buffer,
+                             size_t lower_buffer_length, uint8_t *upper_buffer, size_t upper_buffer_length,
+                             struct doqallin_statistics_parts *parts, struct doqallin_fault *fault);
+
+/* A column that a filter may name: its name, in UTF-8, and its kind. A literal is of the kind of its column (docs/FILTERS.md). */
 struct doqallin_named_kind {
     const uint8_t *name;
     size_t name_length;
     uint8_t kind;
+    uint8_t precision; /* of decimals alone, as in doqallin_kind; it is where there was padding */
+    uint8_t scale;
 };
 
 /* Where words are no filter, and what is wrong there: one of these codes. */
@@ -329,7 +379,7 @@ uint32_t doqallin_prepare_filter(const uint8_t *words, size_t words_length, cons
 
 /* What a prepared filter can be on the rows of zones, by their statistics: a byte of `outcomes` for each zone. It is 1 if the
  * filter can be false on a row, plus 2 if it can be unknown, plus 4 if it can be true. A piece is the statistics of one column
- * in one zone, in their stable encoding (docs/STATISTICS.md): piece k is the bytes from offsets[k] to offsets[k + 1]. Pieces stand
+ * in one zone, in their stable encoding (docs/STATISTICS.md): piece k is the bytes from offsets[k] to offsets[k + 1]. Pieces come
  * zone by zone, one for each column that the filter was prepared for. An empty piece leaves all open. `depth` is that with
  * which the filter was prepared, or more.
  * GIVEN: each zone has its byte. Under each other status the outcomes may have any bytes, and the first of these comes:
@@ -346,9 +396,9 @@ uint32_t doqallin_filter_outcomes(const uint8_t *filter, size_t filter_length, c
                                   uint8_t *outcomes, size_t outcomes_length, struct doqallin_fault *fault);
 
 /* Which of row_count rows match a prepared filter: a bit for each, 1 if the filter is true of it, from the least significant bit
- * on. The columns are those that it was prepared for, in their order, and each has so many rows; strings and bytes may have
- * either width of offsets. `depth` is as above. Whoever prepares a filter for the columns that it names alone need pass no
- * others; one that names none is the same on each row.
+ * on. The columns are those that it was prepared for, in their order, and each that the filter names has so many rows. Strings and
+ * bytes may have either width of offsets, and decimals any width that has their precision. A column that the filter does not name
+ * is not looked at: it may be of any kind, also of none. One that names none is the same on each row. `depth` is as above.
  * GIVEN: the buffer begins with the bits of the rows. Those after them in their last byte are 0, and the bytes after it are as
  * they were. Of the others the first of these comes:
  * BAD_BYTES: the filter is no encoding that nests so deep at most, or has such a literal. fault->column is column_count, and
@@ -356,9 +406,11 @@ uint32_t doqallin_filter_outcomes(const uint8_t *filter, size_t filter_length, c
  * BUFFER_TOO_SMALL: exactly if the filter was read, for which memory is asked, and the buffer has fewer bytes than a bit for each
  * row takes. Here nothing is written.
  * WRONG_LENGTH: exactly if the columns are not as many as the filter's. fault->column is column_count.
- * UNKNOWN_KIND, TOO_MANY_ROWS, TOO_SHORT, BAD_OFFSETS, NOT_UTF8: fault->column cannot be read, for what is at fault->place.
+ * UNKNOWN_KIND, TOO_MANY_ROWS, TOO_SHORT, BAD_OFFSETS, NOT_UTF8, NOT_A_VALUE: fault->column cannot be read, for what is at
+ * fault->place.
  * UNKNOWN_KIND: fault->column is of another kind than the filter's, and fault->place is 1.
- * WRONG_LENGTH: fault->column has another number of rows than row_count. Of the last three the first column decides.
+ * WRONG_LENGTH: fault->column has another number of rows than row_count. Of the last three the first column decides, of those that
+ * the filter names.
  * NO_MEMORY: memory is asked for the filter, for each column, and for values of more than 22 bytes. The bits may then say
  * anything. */
 uint32_t doqallin_filter_mask(const uint8_t *filter, size_t filter_length, const struct doqallin_column *columns,

@@ -20,8 +20,8 @@ int main(void) {
     static const int64_t fares[] = {40, -1, 3};
     static const int32_t offsets[] = {0, 4, 8, 13};
     struct doqallin_column rows[] = {
-        {DOQALLIN_UTF8, NOTHING, BYTES("osloosloskien"), (const uint8_t *)offsets, sizeof offsets, 0, 3},
-        {DOQALLIN_I64, BYTES("\5"), (const uint8_t *)fares, sizeof fares, NOTHING, 0, 3},
+        {DOQALLIN_UTF8, 0, 0, NOTHING, BYTES("osloosloskien"), (const uint8_t *)offsets, sizeof offsets, 0, 3},
+        {DOQALLIN_I64, 0, 0, BYTES("\5"), (const uint8_t *)fares, sizeof fares, NOTHING, 0, 3},
     };
 
     uint8_t small[3];

@@ -20,10 +20,10 @@ int main(void) {
     static const uint16_t fares[2][3] = {{3, 5, 8}, {7, 90, 12}};
     struct doqallin_column zones[2];
     for (int zone = 0; zone < 2; zone++)
-        zones[zone] = (struct doqallin_column){DOQALLIN_U16, NOTHING, (const uint8_t *)fares[zone], sizeof fares[zone], NOTHING, 0, 3};
+        zones[zone] = (struct doqallin_column){DOQALLIN_U16, 0, 0, NOTHING, (const uint8_t *)fares[zone], sizeof fares[zone], NOTHING, 0, 3};
 
     // The words are read once.
-    static const struct doqallin_named_kind columns[] = {{BYTES("fare"), DOQALLIN_U16}};
+    static const struct doqallin_named_kind columns[] = {{BYTES("fare"), DOQALLIN_U16, 0, 0}};
     uint8_t filter[100];
     size_t filter_length;
     struct doqallin_mistake mistake;

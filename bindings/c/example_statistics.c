@@ -18,8 +18,8 @@ static void need(uint32_t status) {
 int main(void) {
     // Bergen and Moss; Oslo and a null.
     static const int32_t first_ends[] = {0, 6, 10}, second_ends[] = {0, 4, 4};
-    struct doqallin_column first = {DOQALLIN_UTF8, NOTHING, BYTES("BergenMoss"), (const uint8_t *)first_ends, sizeof first_ends, 0, 2};
-    struct doqallin_column second = {DOQALLIN_UTF8, BYTES("\1"), BYTES("Oslo"), (const uint8_t *)second_ends, sizeof second_ends, 0, 2};
+    struct doqallin_column first = {DOQALLIN_UTF8, 0, 0, NOTHING, BYTES("BergenMoss"), (const uint8_t *)first_ends, sizeof first_ends, 0, 2};
+    struct doqallin_column second = {DOQALLIN_UTF8, 0, 0, BYTES("\1"), BYTES("Oslo"), (const uint8_t *)second_ends, sizeof second_ends, 0, 2};
 
     // Bounds of at most 4 bytes: an encoding of 18 bytes, and of two keys of at most 10.
     uint8_t one[40], other[40], both[80];

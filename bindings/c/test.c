@@ -62,7 +62,7 @@ static void casts(void) {
 
 // A column of 5, a null and -2. A row of the buffers comes before its first.
 static const uint8_t validity[] = {0x0b}, values[] = {0xff, 0xff, 5, 0, 0xff, 0xff, 0xfe, 0xff};
-static const struct doqallin_column rows = {DOQALLIN_I16, validity, 1, values, 8, values, 0, 1, 3};
+static const struct doqallin_column rows = {DOQALLIN_I16, 0, 0, validity, 1, values, 8, values, 0, 1, 3};
 
 // The call that is tested: all rows or none, or those before the first without a number.
 static uint32_t (*cast)(const struct doqallin_column *, uint8_t, uint8_t *, size_t, struct doqallin_fault *);
@@ -233,8 +233,8 @@ static void row_keys(void) {
     // The numbers -1 and 7 as i16, and "a" and a null after a first row that is passed over.
     static const uint8_t numbers[] = {0xff, 0xff, 7, 0}, valid[] = {3}, ends[] = {0, 0, 0, 0, 1, 0, 0, 0, 2, 0, 0, 0, 2, 0, 0, 0};
     struct doqallin_column two[] = {
-        {DOQALLIN_I16, valid, 0, numbers, 4, ends, 0, 0, 2},
-        {DOQALLIN_UTF8, valid, 1, (const uint8_t *)"xa", 2, ends, 16, 1, 2},
+        {DOQALLIN_I16, 0, 0, valid, 0, numbers, 4, ends, 0, 0, 2},
+        {DOQALLIN_UTF8, 0, 0, valid, 1, (const uint8_t *)"xa", 2, ends, 16, 1, 2},
     };
     uint64_t starts[3] = {9, 9, 9};
     fresh();
@@ -259,16 +259,16 @@ static void row_keys(void) {
     CHECK(doqallin_row_keys(two, 2, BYTES("\0\1"), starts, 3, buffer, BUFFER, &count, &fault) == DOQALLIN_TOO_SHORT && at_fault(1, 2));
     two[1].offset = SIZE_MAX;
     CHECK(doqallin_row_keys(two, 2, BYTES("\0\1"), starts, 3, buffer, BUFFER, &count, &fault) == DOQALLIN_TOO_MANY_ROWS && at_fault(1, 0));
-    two[1] = (struct doqallin_column){DOQALLIN_UTF8, valid, 0, (const uint8_t *)"x\xff", 2, ends, 16, 0, 2};
+    two[1] = (struct doqallin_column){DOQALLIN_UTF8, 0, 0, valid, 0, (const uint8_t *)"x\xff", 2, ends, 16, 0, 2};
     CHECK(doqallin_row_keys(two, 2, BYTES("\0\1"), starts, 3, buffer, BUFFER, &count, &fault) == DOQALLIN_NOT_UTF8 && at_fault(1, 1));
     two[1].values_length = 1;
     CHECK(doqallin_row_keys(two, 2, BYTES("\0\1"), starts, 3, buffer, BUFFER, &count, &fault) == DOQALLIN_BAD_OFFSETS && at_fault(1, 1));
-    two[0].kind = 14;
+    two[0].kind = 32;
     CHECK(doqallin_row_keys(two, 2, BYTES("\0\1"), starts, 3, buffer, BUFFER, &count, &fault) == DOQALLIN_UNKNOWN_KIND && at_fault(0, 0));
     CHECK(no_keys(starts));
     CHECK(doqallin_row_keys(two, 0, BYTES(""), starts, 3, buffer, BUFFER, &count, &fault) == DOQALLIN_GIVEN && count == 0 && starts[0] == 0);
     // Nulls need no memory, and are not counted one by one.
-    two[0] = (struct doqallin_column){DOQALLIN_NULL, valid, 0, numbers, 0, ends, 0, 0, SIZE_MAX};
+    two[0] = (struct doqallin_column){DOQALLIN_NULL, 0, 0, valid, 0, numbers, 0, ends, 0, 0, SIZE_MAX};
     CHECK(doqallin_row_keys(two, 1, BYTES("\2"), starts, 3, buffer, BUFFER, &count, &fault) == DOQALLIN_BUFFER_TOO_SMALL && count == SIZE_MAX);
 }
 
@@ -318,8 +318,8 @@ static void columns_of_keys(void) {
     CHECK(back("\5\x0a", "\2\1", offsets, 3, keys, 8, 1, 1, 0, 3) == DOQALLIN_BUFFER_TOO_SMALL && count == 1);
     CHECK(back("\5\x0a", "\2", offsets, 3, keys, 8, 0, 1, 4, 0) == DOQALLIN_WRONG_LENGTH && at_fault(2, 0) && no_column());
     CHECK(back_to(1, "\5\x0a", "\2\1", offsets, 3, keys, 8, 0, 1, 4, 0) == DOQALLIN_WRONG_LENGTH && at_fault(2, 0) && no_column());
-    CHECK(back("\5\x0e", "\2\1", offsets, 3, keys, 8, 0, 1, 4, 0) == DOQALLIN_UNKNOWN_KIND && at_fault(1, 0) && no_column());
-    CHECK(back("\5\x0e", "\2\4", offsets, 3, keys, 8, 0, 1, 4, 0) == DOQALLIN_BAD_OPTIONS && at_fault(1, 0) && no_column());
+    CHECK(back("\5\x20", "\2\1", offsets, 3, keys, 8, 0, 1, 4, 0) == DOQALLIN_UNKNOWN_KIND && at_fault(1, 0) && no_column());
+    CHECK(back("\5\x20", "\2\4", offsets, 3, keys, 8, 0, 1, 4, 0) == DOQALLIN_BAD_OPTIONS && at_fault(1, 0) && no_column());
     CHECK(back("\5\x0a", "\2\1", down, 3, keys, 8, 0, 1, 4, 0) == DOQALLIN_BAD_OFFSETS && at_fault(0, 1) && no_column());
     CHECK(back("\5\x0a", "\2\1", past, 3, keys, 8, 0, 1, 4, 0) == DOQALLIN_BAD_OFFSETS && at_fault(0, 1) && no_column());
     // A byte that no text has, the end of a key that is too short, one byte after a key, and a number that no i8 is.
@@ -347,8 +347,8 @@ static int nothing_given(void) { return count == 77 && is_kept(buffer, 0); }
 static void column_statistics(void) {
     static const uint8_t numbers[] = {2, 0, 0, 0, 9, 9, 9, 9, 5, 0, 0, 0}, valid[] = {5};
     static const uint8_t ends[] = {0, 0, 0, 0, 5, 0, 0, 0, 11, 0, 0, 0};
-    struct doqallin_column ints = {DOQALLIN_I32, valid, 1, numbers, 12, ends, 0, 0, 3};
-    struct doqallin_column strings = {DOQALLIN_UTF8, valid, 0, (const uint8_t *)"applebanana", 11, ends, 12, 0, 2};
+    struct doqallin_column ints = {DOQALLIN_I32, 0, 0, valid, 1, numbers, 12, ends, 0, 0, 3};
+    struct doqallin_column strings = {DOQALLIN_UTF8, 0, 0, valid, 0, (const uint8_t *)"applebanana", 11, ends, 12, 0, 2};
     fresh();
     fault = (struct doqallin_fault){77, 78};
     CHECK(doqallin_column_statistics(&ints, 3, buffer, BUFFER, &count, &fault) == DOQALLIN_GIVEN && at_fault(77, 78));
@@ -383,7 +383,7 @@ static void column_statistics(void) {
     CHECK(doqallin_column_statistics(&ints, 3, buffer, BUFFER, &count, &fault) == DOQALLIN_TOO_SHORT && at_fault(0, 1));
     ints.offset = SIZE_MAX;
     CHECK(doqallin_column_statistics(&ints, 3, buffer, BUFFER, &count, &fault) == DOQALLIN_TOO_MANY_ROWS && at_fault(0, 0));
-    ints.kind = 14;
+    ints.kind = 32;
     CHECK(doqallin_column_statistics(&ints, 3, buffer, BUFFER, &count, &fault) == DOQALLIN_UNKNOWN_KIND && at_fault(0, 0));
     CHECK(nothing_given());
 }
@@ -406,7 +406,7 @@ static void merged_statistics(void) {
     CHECK(doqallin_merge_statistics(DOQALLIN_I32, most, 10, three, 22, buffer, BUFFER, &count, &fault) == DOQALLIN_TOO_MANY_ROWS && at_fault(0, 0));
     // Bytes that are no encoding are told before rows that are too many.
     CHECK(doqallin_merge_statistics(DOQALLIN_I32, most, 10, three, 1, buffer, BUFFER, &count, &fault) == DOQALLIN_BAD_BYTES && at_fault(1, 1));
-    CHECK(doqallin_merge_statistics(14, three, 22, three, 22, buffer, BUFFER, &count, &fault) == DOQALLIN_UNKNOWN_KIND && at_fault(0, 0));
+    CHECK(doqallin_merge_statistics(32, three, 22, three, 22, buffer, BUFFER, &count, &fault) == DOQALLIN_UNKNOWN_KIND && at_fault(0, 0));
     CHECK(nothing_given());
 }
 
@@ -460,11 +460,11 @@ static void read_statistics(void) {
     CHECK(read_as(DOQALLIN_I32, three, 23, BUFFER, BUFFER) == DOQALLIN_BAD_BYTES && none_read(22));
     CHECK(read_as(DOQALLIN_I32, three, 0, BUFFER, BUFFER) == DOQALLIN_BAD_BYTES && none_read(0));
     CHECK(read_as(DOQALLIN_I8, BYTES("\1\2\0\0\0\0\0\0\0\1\x0d\x80"), BUFFER, BUFFER) == DOQALLIN_BAD_BYTES && none_read(11));
-    CHECK(read_as(14, three, 22, BUFFER, BUFFER) == DOQALLIN_UNKNOWN_KIND && none_read(0));
+    CHECK(read_as(32, three, 22, BUFFER, BUFFER) == DOQALLIN_UNKNOWN_KIND && none_read(0));
 }
 
 // A filter over n, an i16, and s, a string; and its encoding.
-static const struct doqallin_named_kind schema[] = {{(const uint8_t *)"n", 1, DOQALLIN_I16}, {(const uint8_t *)"s", 1, DOQALLIN_UTF8}};
+static const struct doqallin_named_kind schema[] = {{(const uint8_t *)"n", 1, DOQALLIN_I16, 0, 0}, {(const uint8_t *)"s", 1, DOQALLIN_UTF8, 0, 0}};
 static struct doqallin_mistake mistake;
 static uint8_t form[64];
 static size_t form_length;
@@ -491,9 +491,9 @@ static void prepared_filters(void) {
     CHECK(prepare("n > 5 'a", 2) == DOQALLIN_BAD_FILTER && at_mistake(6, DOQALLIN_BAD_TEXT));
     CHECK(prepare("n > 5 n", 2) == DOQALLIN_BAD_FILTER && at_mistake(6, DOQALLIN_EXPECTED_END));
     CHECK(prepare("s = '\xff'", 2) == DOQALLIN_NOT_UTF8 && at_mistake(2, 0) && count == 77 && is_kept(buffer, 0));
-    struct doqallin_named_kind wrong[] = {schema[0], {(const uint8_t *)"\xff", 1, DOQALLIN_BOOL}};
+    struct doqallin_named_kind wrong[] = {schema[0], {(const uint8_t *)"\xff", 1, DOQALLIN_BOOL, 0, 0}};
     CHECK(doqallin_prepare_filter(BYTES("\xff"), wrong, 2, 256, buffer, BUFFER, &count, &mistake) == DOQALLIN_NOT_UTF8 && at_mistake(1, 0));
-    wrong[0].kind = 14;
+    wrong[0].kind = 32;
     CHECK(doqallin_prepare_filter(BYTES("\xff"), wrong, 2, 256, buffer, BUFFER, &count, &mistake) == DOQALLIN_UNKNOWN_KIND && at_mistake(0, 0));
     // 256 levels are read. A number that the type lacks takes two more in the encoding.
     char deep[256 * 4 + 12];
@@ -512,8 +512,8 @@ static void filter_rows(void) {
     // n is 3, a null, 7 and 9; s is "ab", "", "b" and "abc".
     static const uint8_t numbers[] = {3, 0, 7, 0, 7, 0, 9, 0}, valid[] = {13}, ends[] = {0, 0, 0, 0, 2, 0, 0, 0, 2, 0, 0, 0, 3, 0, 0, 0, 6, 0, 0, 0};
     struct doqallin_column two[] = {
-        {DOQALLIN_I16, valid, 1, numbers, 8, ends, 0, 0, 4},
-        {DOQALLIN_UTF8, valid, 0, (const uint8_t *)"abbabc", 6, ends, 20, 0, 4},
+        {DOQALLIN_I16, 0, 0, valid, 1, numbers, 8, ends, 0, 0, 4},
+        {DOQALLIN_UTF8, 0, 0, valid, 0, (const uint8_t *)"abbabc", 6, ends, 20, 0, 4},
     };
     CHECK(prepare("n > 5 and s like 'a%'", 2) == DOQALLIN_BUFFER_TOO_SMALL && count < sizeof form);
     CHECK(doqallin_prepare_filter(BYTES("n > 5 and s like 'a%'"), schema, 2, 256, form, sizeof form, &form_length, &mistake) == DOQALLIN_GIVEN);
@@ -526,7 +526,7 @@ static void filter_rows(void) {
     CHECK(doqallin_filter_mask(form, form_length, two, 1, 4, 32, other, 1, &fault) == DOQALLIN_WRONG_LENGTH && at_fault(1, 0));
     two[0].kind = DOQALLIN_U16;
     CHECK(doqallin_filter_mask(form, form_length, two, 2, 4, 32, other, 1, &fault) == DOQALLIN_UNKNOWN_KIND && at_fault(0, 1));
-    two[0].kind = 14;
+    two[0].kind = 32;
     CHECK(doqallin_filter_mask(form, form_length, two, 2, 4, 32, other, 1, &fault) == DOQALLIN_UNKNOWN_KIND && at_fault(0, 0));
     two[0].kind = DOQALLIN_I16;
     CHECK(doqallin_filter_mask(form, form_length, two, 2, 5, 32, other, 1, &fault) == DOQALLIN_WRONG_LENGTH && at_fault(0, 0));
@@ -575,7 +575,7 @@ static void filters_that_nest(void) {
         CHECK(mistake.expected == DOQALLIN_TOO_DEEP && mistake.place > 0);
         CHECK(doqallin_prepare_filter((const uint8_t *)words, strlen(words), schema, 1, 32, encoding, sizeof encoding, &length, &mistake) == DOQALLIN_GIVEN);
         static const uint8_t two[] = {2, 0}, none[] = {0};
-        struct doqallin_column n = {DOQALLIN_I16, none, 0, two, 2, none, 0, 0, 1};
+        struct doqallin_column n = {DOQALLIN_I16, 0, 0, none, 0, two, 2, none, 0, 0, 1};
         CHECK(doqallin_filter_mask(encoding, length, &n, 1, 1, 32, buffer, 1, &fault) == DOQALLIN_GIVEN && buffer[0] == (part == 1 || part == 2));
         static const uint64_t starts[] = {0, 0};
         CHECK(doqallin_filter_outcomes(encoding, length, buffer, 0, starts, 2, 32, buffer, 1, &fault) == DOQALLIN_GIVEN && buffer[0] & 1 << (part == 1 || part == 2 ? 2 : 0));
@@ -588,7 +588,7 @@ static void filters_that_nest(void) {
         CHECK(mistake.expected == DOQALLIN_TOO_DEEP && mistake.place < strlen(words));
         CHECK(doqallin_prepare_filter((const uint8_t *)words, strlen(words), schema, 1, level, encoding, sizeof encoding, &length, &mistake) == DOQALLIN_GIVEN);
         static const uint8_t two[] = {2, 0}, none[] = {0};
-        struct doqallin_column n = {DOQALLIN_I16, none, 0, two, 2, none, 0, 0, 1};
+        struct doqallin_column n = {DOQALLIN_I16, 0, 0, none, 0, two, 2, none, 0, 0, 1};
         CHECK(doqallin_filter_mask(encoding, length, &n, 1, 1, level, buffer, 1, &fault) == DOQALLIN_GIVEN && !buffer[0]);
         CHECK(doqallin_filter_mask(encoding, length, &n, 1, 1, level - 1, buffer, 1, &fault) == DOQALLIN_BAD_BYTES && at_fault(1, fault.place) && fault.place < length);
         sprintf(deeper, "(%s) and n = 1 or n = 1", words);
@@ -625,6 +625,89 @@ static void filter_zones(void) {
     CHECK(doqallin_filter_outcomes(form, form_length, known, 62, starts, 5, 32, buffer, 2, &fault) == DOQALLIN_BAD_BYTES && at_fault(0, 1));
 }
 
+// The statistics of 1.5, a NaN with its sign set and -0.0: from 0.0 to NaN.
+static const uint8_t prices[] = "\2\1\0\0\1\x1f\0\0\0\0\0\0\0\3\0\0\0\0\0\0\0\0\x0c\x14\x7f\xf0\0\0\0\0\0\1";
+// Those of 12.34 as a decimal of 20 digits with two behind the point: 16 bytes that sort, of which those below 2 are escaped.
+#define STORED_FARE "\x16\x80\1\1\1\1\1\1\1\1\1\1\1\1\1\1\1\1\1\1\1\1\1\1\1\1\1\1\4\xd2\0"
+static const uint8_t fares[] = "\2\3\x14\2\1\x1f\0\0\0\0\0\0\0\1\0\0\0\0\0\0\0\0" STORED_FARE STORED_FARE;
+
+// Of floats 1.5, a NaN with its sign set and -0.0; 12.34 as a decimal; a day, and one after the year 9999.
+static const uint64_t some_floats[] = {0x3ff8000000000000, 0xfff8000000000000, 0x8000000000000000};
+static const uint8_t fare[16] = {0xd2, 4}, none[] = {0};
+static const int32_t some_days[] = {20512, 2932897};
+static const struct doqallin_column wide = {DOQALLIN_F64, 0, 0, none, 0, (const uint8_t *)some_floats, sizeof some_floats, none, 0, 0, 3};
+static const struct doqallin_column decimal = {DOQALLIN_DECIMAL128, 20, 2, none, 0, fare, sizeof fare, none, 0, 0, 1};
+static const struct doqallin_column late = {DOQALLIN_DATE32, 0, 0, none, 0, (const uint8_t *)some_days, sizeof some_days, none, 0, 0, 2};
+static const struct doqallin_kind of_fares = {DOQALLIN_DECIMAL128, 20, 2}, no_kind = {DOQALLIN_DECIMAL64, 19, 2}, of_time = {DOQALLIN_TIME_S, 0, 0};
+static uint8_t room[256];
+
+static void columns_of_logical_types(void) {
+    struct doqallin_column wrong = decimal;
+    fault = (struct doqallin_fault){77, 78};
+    CHECK(doqallin_column_statistics(&wide, 0, room, sizeof room, &count, &fault) == DOQALLIN_GIVEN && at_fault(77, 78));
+    CHECK(count == sizeof prices - 1 && !memcmp(room, prices, sizeof prices - 1));
+    CHECK(doqallin_column_statistics(&decimal, 0, room, sizeof room, &count, &fault) == DOQALLIN_GIVEN);
+    CHECK(count == sizeof fares - 1 && !memcmp(room, fares, sizeof fares - 1));
+    CHECK(doqallin_column_statistics(&late, 0, buffer, BUFFER, &count, &fault) == DOQALLIN_NOT_A_VALUE && at_fault(0, 1));
+    wrong.scale = 21;
+    CHECK(doqallin_column_statistics(&wrong, 0, buffer, BUFFER, &count, &fault) == DOQALLIN_UNKNOWN_KIND && at_fault(0, 0));
+    wrong.scale = 2, wrong.precision = 3;
+    CHECK(doqallin_column_statistics(&wrong, 0, buffer, BUFFER, &count, &fault) == DOQALLIN_NOT_A_VALUE && at_fault(0, 0));
+    CHECK(doqallin_cast_column(&wide, DOQALLIN_I64, buffer, BUFFER, &fault) == DOQALLIN_UNKNOWN_KIND && at_fault(0, 0));
+}
+
+// Statistics read back: a zero has no sign, and NaN is one.
+static void statistics_of_logical_types(void) {
+    CHECK(read_as(DOQALLIN_F64, prices, sizeof prices - 1, 8, 8) == DOQALLIN_GIVEN && tell(3, 0, 2, 2));
+    CHECK(bounds_are("\0\0\0\0\0\0\0\0", 8, "\1\0\0\0\0\0\xf0\x7f", 8));
+    CHECK(read_as(DOQALLIN_F32, prices, sizeof prices - 1, 8, 8) == DOQALLIN_BAD_BYTES && none_read(1));
+    CHECK(read_as(DOQALLIN_I64, prices, sizeof prices - 1, 8, 8) == DOQALLIN_BAD_BYTES && none_read(0));
+    CHECK(read_as(DOQALLIN_DECIMAL128, fares, sizeof fares - 1, 16, 16) == DOQALLIN_UNKNOWN_KIND && none_read(0));
+    CHECK(read_as(DOQALLIN_TIME_S, BYTES("\2\5\3\0\1\2\0\0\0\0\0\0\0\1\x0f\1\x51\x80"), 8, 8) == DOQALLIN_NOT_A_VALUE && none_read(0));
+    fresh();
+    CHECK(doqallin_read_typed(&of_fares, fares, sizeof fares - 1, buffer, 16, other, 16, &parts, &fault) == DOQALLIN_GIVEN && tell(1, 0, 2, 2));
+    CHECK(bounds_are((const char *)fare, 16, (const char *)fare, 16));
+    CHECK(doqallin_read_typed(&no_kind, fares, sizeof fares - 1, buffer, 16, other, 16, &parts, &fault) == DOQALLIN_UNKNOWN_KIND && at_fault(0, 0));
+    CHECK(doqallin_merge_typed(&of_fares, fares, sizeof fares - 1, fares, sizeof fares - 1, room, sizeof room, &count, &fault) == DOQALLIN_GIVEN);
+    CHECK(count == sizeof fares - 1 && room[13] == 2 && !memcmp(room + 14, fares + 14, sizeof fares - 15));
+    CHECK(doqallin_merge_typed(&of_fares, fares, sizeof fares - 1, prices, sizeof prices - 1, room, sizeof room, &count, &fault) == DOQALLIN_BAD_BYTES && at_fault(1, 1));
+    CHECK(doqallin_merge_typed(&no_kind, fares, sizeof fares - 1, fares, sizeof fares - 1, room, sizeof room, &count, &fault) == DOQALLIN_UNKNOWN_KIND && at_fault(0, 0));
+}
+
+// The key of a number that is no time of day is read as a number alone.
+static void keys_of_logical_types(void) {
+    static const int32_t times[] = {0, 86400};
+    static const struct doqallin_column seconds = {DOQALLIN_I32, 0, 0, none, 0, (const uint8_t *)times, sizeof times, none, 0, 0, 2};
+    struct doqallin_column_buffers into = {other, BUFFER, spare, BUFFER, starts, 3, 77};
+    uint64_t ends[3];
+    CHECK(doqallin_row_keys(&seconds, 1, BYTES("\2"), ends, 3, buffer, BUFFER, &count, &fault) == DOQALLIN_GIVEN && count == 5);
+    CHECK(doqallin_columns_of_typed_keys(&of_time, 1, BYTES("\2"), ends, 3, buffer, count, &into, 1, &fault) == DOQALLIN_NOT_A_VALUE && at_fault(0, 1));
+    CHECK(doqallin_columns_of_typed_keys(&no_kind, 1, BYTES("\2"), ends, 3, buffer, count, &into, 1, &fault) == DOQALLIN_UNKNOWN_KIND && at_fault(0, 0));
+    CHECK(doqallin_columns_of_typed_keys(&of_time, 1, BYTES("\2"), ends, 2, buffer, count, &into, 1, &fault) == DOQALLIN_GIVEN && into.count == 4);
+}
+
+// A mask of these columns by words over x, of floats, and y, of decimals.
+static uint32_t mask_by(const char *words, const struct doqallin_column *two, size_t rows) {
+    static const struct doqallin_named_kind named[] = {{(const uint8_t *)"x", 1, DOQALLIN_F64, 0, 0}, {(const uint8_t *)"y", 1, DOQALLIN_DECIMAL128, 20, 2}};
+    uint32_t status = doqallin_prepare_filter((const uint8_t *)words, strlen(words), named, 2, 32, room, sizeof room, &count, &mistake);
+    return status ? status : doqallin_filter_mask(room, count, two, 2, rows, 32, other, 1, &fault);
+}
+
+// A column that the filter does not name may be anything.
+static void filters_of_logical_types(void) {
+    static const struct doqallin_column odd = {200, 0, 0, none, 0, none, 0, none, 0, SIZE_MAX, 9};
+    struct doqallin_column two[] = {wide, odd};
+    CHECK(mask_by("x > 0 and x <= 1.5", two, 3) == DOQALLIN_GIVEN && other[0] == 1);
+    CHECK(mask_by("x > 1.5", two, 3) == DOQALLIN_GIVEN && other[0] == 2);
+    CHECK(mask_by("x = 0", two, 3) == DOQALLIN_GIVEN && other[0] == 4);
+    two[0] = odd, two[1] = decimal;
+    CHECK(mask_by("y = 12.34", two, 1) == DOQALLIN_GIVEN && other[0] == 1);
+    CHECK(mask_by("y > 12.335 and y < 12.345", two, 1) == DOQALLIN_GIVEN && other[0] == 1);
+    two[1].precision = 21;
+    CHECK(mask_by("y = 12.34", two, 1) == DOQALLIN_UNKNOWN_KIND && at_fault(1, 1));
+    CHECK(mask_by("y = 'a'", two, 1) == DOQALLIN_BAD_FILTER && at_mistake(4, DOQALLIN_TYPES_DIFFER));
+}
+
 static void calls(void) {
     fresh();
     CHECK(doqallin_call(BYTES("cast i32:1000i32 i16"), buffer, BUFFER, &count) == DOQALLIN_GIVEN && holds(buffer, count, "i16:1000i16"));
@@ -651,14 +734,20 @@ static void calls(void) {
 // The encoding of the filter "b = true", of a column of booleans.
 static const uint8_t is_true[] = {1, 0, 0, 0, 0, 0, 0, 0, 1, 24, 3, 0, 0, 0, 0, 0, 0, 0, 0, 8, 3};
 
+// The encoding of the filter "d = '1970-01-02'", of a column of dates.
+static const uint8_t is_next_day[] = "\2\0\0\0\0\0\0\0\1 \25vortex.date\0\26\4\0\26\3\0\0\0\0\0\0\0\0 \25vortex.date\0\26\4\0\26\15\1";
+
 // The calls that take memory: of bounds at more than 22 bytes, of a line that makes lists, of keys, of statistics, of filters, and of
-// columns of keys.
+// columns of keys; and those that take it for a logical type.
 static uint32_t take_memory(int which) {
     static const uint64_t offsets[] = {0, 28};
-    static const struct doqallin_column bools = {DOQALLIN_BOOL, (const uint8_t *)"", 0, (const uint8_t *)"\1", 1, (const uint8_t *)"", 0, 0, 1};
+    static const struct doqallin_column bools = {DOQALLIN_BOOL, 0, 0, (const uint8_t *)"", 0, (const uint8_t *)"\1", 1, (const uint8_t *)"", 0, 0, 1};
     static const uint8_t lowest[] = "\1\3\0\0\0\0\0\0\0\1\0\0\0\0\0\0\0\0\x15" LONG;
-    static const struct doqallin_named_kind flags[] = {{(const uint8_t *)"b", 1, DOQALLIN_BOOL}};
-    static const uint64_t offsets_of_none[] = {0, 0}, ends_of_key[] = {0, 30};
+    static const struct doqallin_named_kind flags[] = {{(const uint8_t *)"b", 1, DOQALLIN_BOOL, 0, 0}};
+    static const uint64_t offsets_of_none[] = {0, 0}, ends_of_key[] = {0, 30}, ends_of_fare[] = {0, 31};
+    static const struct doqallin_column days = {DOQALLIN_DATE32, 0, 0, (const uint8_t *)"", 0, (const uint8_t *)"\1\0\0\0", 4, (const uint8_t *)"", 0, 0, 1};
+    static const uint8_t noon[] = "\2\5\3\0\1\2\0\0\0\0\0\0\0\1\x0e\xa8\xc0";
+    static const struct doqallin_named_kind dates[] = {{(const uint8_t *)"d", 1, DOQALLIN_DATE32, 0, 0}};
     switch (which) {
     case 0: return doqallin_upper_bound_bytes(BYTES(LONG), 24, buffer, BUFFER, &count);
     case 1: return doqallin_upper_bound_text(BYTES(LONG), 24, buffer, BUFFER, &count);
@@ -677,6 +766,14 @@ static uint32_t take_memory(int which) {
         uint32_t status = doqallin_columns_of_row_keys(BYTES("\x09"), BYTES("\2"), ends_of_key, 2, BYTES("\x15" LONG "\0"), made, 1, &fault);
         count = made[0].count;
         return status;
+    case 13: return doqallin_column_statistics(&days, 0, buffer, BUFFER, &count, &fault);
+    case 14: return doqallin_merge_typed(&of_time, noon, sizeof noon - 1, noon, sizeof noon - 1, buffer, BUFFER, &count, &fault);
+    case 15: return doqallin_read_typed(&of_fares, fares, sizeof fares - 1, buffer, BUFFER, other, BUFFER, &parts, &fault);
+    case 16:
+        made[0] = (struct doqallin_column_buffers){other, BUFFER, buffer, BUFFER, starts, 3, 77};
+        return doqallin_columns_of_typed_keys(&of_fares, 1, BYTES("\2"), ends_of_fare, 2, (const uint8_t *)STORED_FARE, 31, made, 1, &fault);
+    case 17: return doqallin_prepare_filter(BYTES("d = '1970-01-02'"), dates, 1, 32, room, sizeof room, &count, &mistake);
+    case 18: return doqallin_filter_mask(is_next_day, sizeof is_next_day - 1, &days, 1, 1, 32, buffer, 1, &fault);
     default: exit(2);
     }
 }
@@ -695,9 +792,14 @@ static int given(int which) {
     if (which == 7) return count == 22 && !memcmp(buffer, six, 22) ? 0 : 1;
     if (which == 8) return parts.lower_length == 28 && !memcmp(buffer, LONG, 28) ? 0 : 1;
     if (which == 9) return count == sizeof is_true && !memcmp(buffer, is_true, count) && is_kept(buffer, count) ? 0 : 1;
-    if (which == 10) return buffer[0] == 1 && is_kept(buffer, 1) ? 0 : 1;
+    if (which == 10 || which == 18) return buffer[0] == 1 && is_kept(buffer, 1) ? 0 : 1;
     if (which == 12) return holds(buffer, count, LONG) && other[0] == 1 && is_kept(other, 1) && starts[1] == 28 ? 0 : 1;
     if (which == 11) return buffer[0] == 7 && is_kept(buffer, 1) ? 0 : 1;
+    if (which == 13) return count == 26 && !memcmp(buffer, "\2\4\4\0\1\x1f\0\0\0\0\0\0\0\1\0\0\0\0\0\0\0\0\x0d\1\x0d\1", 26) ? 0 : 1;
+    if (which == 14) return count == 17 && !memcmp(buffer, "\2\5\3\0\1\2\0\0\0\0\0\0\0\2\x0e\xa8\xc0", 17) ? 0 : 1;
+    if (which == 15) return parts.lower_length == 16 && !memcmp(buffer, fare, 16) && !memcmp(other, fare, 16) ? 0 : 1;
+    if (which == 16) return made[0].count == 16 && !memcmp(buffer, fare, 16) && other[0] == 1 && is_kept(other, 1) ? 0 : 1;
+    if (which == 17) return count == sizeof is_next_day - 1 && !memcmp(room, is_next_day, count) ? 0 : 1;
     return memcmp(which < 2 ? buffer : other, "012345678901234567890124", 24) ? 1 : 0;
 }
 
@@ -712,7 +814,7 @@ static int memory(int which) {
     say("answered\n");
     if (mallinfo2().uordblks != before) return 1;
     // Without memory the byte of a mask, or of outcomes, may be any.
-    size_t any = which == 10 || which == 11;
+    size_t any = which == 10 || which == 11 || which == 18;
     if (status == DOQALLIN_NO_MEMORY) return count == 77 && lengths_kept() && is_kept(buffer, any) && is_kept(other, 0) ? 3 : 1;
     return status == DOQALLIN_GIVEN ? given(which) : 1;
 }
@@ -737,6 +839,10 @@ int main(int argc, char **argv) {
     filter_of_no_columns();
     filters_that_nest();
     filter_zones();
+    columns_of_logical_types();
+    statistics_of_logical_types();
+    keys_of_logical_types();
+    filters_of_logical_types();
     calls();
     printf("%d passed, %d failed\n", passed, failed);
     return failed != 0;

@@ -82,12 +82,12 @@ static int is_column(const struct doqallin_column *of, size_t rows) {
     for (size_t row = 0; row < rows; row++) {
         int valid = is_valid(of, row);
         if (is_bit(bitmap, row) != valid) return 0;
-        if (of->kind < DOQALLIN_BOOL) {
-            __int128 number = valid ? number_at(of, row) : 0;
-            if (memcmp(buffer + (row << of->kind % 4), &number, (size_t)1 << of->kind % 4)) return 0;
+        if (has_items(of->kind)) {
+            __int128 item = valid ? item_of(of->kind, number_at(of, row)) : 0;
+            if (memcmp(buffer + row * widths[of->kind], &item, widths[of->kind])) return 0;
         } else if (of->kind == DOQALLIN_BOOL) {
             if (is_bit(buffer, row) != (valid && is_bit(of->values, of->offset + row))) return 0;
-        } else if (of->kind < DOQALLIN_NULL) {
+        } else if (has_bytes(of->kind)) {
             uint64_t start = valid ? start_of(of, row) : 0, size = valid ? start_of(of, row + 1) - start : 0;
             if (places[row] != at || places[row + 1] != at + size || memcmp(buffer + at, of->values + start, size)) return 0;
             at += size;
@@ -95,13 +95,13 @@ static int is_column(const struct doqallin_column *of, size_t rows) {
     }
     for (size_t row = rows; row < (rows + 7) / 8 * 8; row++)
         if (is_bit(bitmap, row) || (of->kind == DOQALLIN_BOOL && is_bit(buffer, row))) return 0;
-    size_t bits = (rows + 7) / 8, size = of->kind < DOQALLIN_BOOL ? rows << of->kind % 4 : of->kind == DOQALLIN_BOOL ? bits : of->kind == DOQALLIN_NULL ? 0 : at;
-    int has_offsets = of->kind > DOQALLIN_BOOL && of->kind < DOQALLIN_NULL;
+    size_t bits = (rows + 7) / 8, size = has_items(of->kind) ? rows * widths[of->kind] : of->kind == DOQALLIN_BOOL ? bits : at;
+    int has_offsets = has_bytes(of->kind);
     return count == size && bitmap[bits] == 'q' && is_kept(size, has_offsets ? rows + 1 : 0) && (!has_offsets || places[0] == 0);
 }
 
 // Reads both columns back, this one into `size` bytes of the buffer, and the other into buffers of its own.
-static uint32_t column_back(const uint8_t *kinds, const uint8_t *options, const uint64_t *starts, size_t rows, const uint8_t *keys, size_t length, size_t which, size_t size) {
+static uint32_t column_back(const struct doqallin_kind *kinds, const uint8_t *options, const uint64_t *starts, size_t rows, const uint8_t *keys, size_t length, size_t which, size_t size) {
     static uint8_t spare_bits[sizeof bitmap], spare[BUFFER];
     static uint64_t spare_places[ROWS + 2];
     fresh();
@@ -109,7 +109,11 @@ static uint32_t column_back(const uint8_t *kinds, const uint8_t *options, const 
     struct doqallin_column_buffers both[2];
     both[which] = (struct doqallin_column_buffers){bitmap, sizeof bitmap, buffer, size, places, ROWS + 2, count};
     both[1 - which] = (struct doqallin_column_buffers){spare_bits, sizeof spare_bits, spare, BUFFER, spare_places, ROWS + 2, count};
-    uint32_t status = doqallin_columns_of_row_keys(kinds, 2, options, 2, starts, rows + 1, keys, length, both, 2, &fault);
+    // The call takes codes alone, but of decimals: then it is that of the same name with kinds.
+    uint8_t codes[] = {kinds[0].code, kinds[1].code};
+    int is_typed = is_decimal(codes[0]) || is_decimal(codes[1]) || below(2);
+    uint32_t status = is_typed ? doqallin_columns_of_typed_keys(kinds, 2, options, 2, starts, rows + 1, keys, length, both, 2, &fault)
+                               : doqallin_columns_of_row_keys(codes, 2, options, 2, starts, rows + 1, keys, length, both, 2, &fault);
     count = both[which].count;
     return status;
 }
@@ -118,7 +122,8 @@ static uint32_t column_back(const uint8_t *kinds, const uint8_t *options, const 
 // they are.
 static uint32_t of_back(const struct doqallin_column *two, const uint8_t *options, size_t rows, size_t end) {
     static uint8_t made[2][2][BUFFER], offsets[2][8 * (ROWS + 2)], again[BUFFER];
-    uint8_t kinds[] = {two[0].kind, two[1].kind}, keys[BUFFER];
+    struct doqallin_kind kinds[] = {kind_of(&two[0]), kind_of(&two[1])};
+    uint8_t keys[BUFFER];
     memcpy(keys, exactly(6, wanted, end), end);
     for (size_t which = 0; which < 2; which++) {
         CHECK(column_back(kinds, options, ends, rows, exactly(6, keys, end), end, which, BUFFER) == DOQALLIN_GIVEN && fault.column == 77);
@@ -134,14 +139,16 @@ static uint32_t of_back(const struct doqallin_column *two, const uint8_t *option
     for (size_t which = 0; which < 2; which++) {
         uint32_t status = column_back(kinds, options, ends, rows, exactly(6, keys, end), end, which, BUFFER);
         if (status) {
-            CHECK(status == DOQALLIN_BAD_BYTES && fault.column == 0 && fault.place <= end && count == 77 && is_kept(0, 0) && bitmap[0] == 'q');
+            int is_none = status == DOQALLIN_NOT_A_VALUE && fault.column < 2 && is_logical(kinds[fault.column].code) && fault.place < rows;
+            int is_bad = status == DOQALLIN_BAD_BYTES && fault.column == 0 && fault.place <= end;
+            CHECK((is_none || is_bad) && count == 77 && is_kept(0, 0) && bitmap[0] == 'q');
             return status;
         }
         memcpy(made[which][0], bitmap, sizeof bitmap);
         memcpy(made[which][1], buffer, BUFFER);
         memcpy(offsets[which], places, 8 * (rows + 1));
-        uint8_t kind = kinds[which] == DOQALLIN_UTF8 || kinds[which] == DOQALLIN_BINARY ? kinds[which] + 1 : kinds[which];
-        read[which] = (struct doqallin_column){kind, made[which][0], (rows + 7) / 8, made[which][1], count, offsets[which], 8 * (rows + 1), 0, rows};
+        uint8_t kind = kinds[which].code + is_small(kinds[which].code);
+        read[which] = (struct doqallin_column){kind, kinds[which].precision, kinds[which].scale, made[which][0], (rows + 7) / 8, made[which][1], count, offsets[which], 8 * (rows + 1), 0, rows};
     }
     CHECK(doqallin_row_keys(read, 2, options, 2, places, rows + 1, again, BUFFER, &count, &fault) == DOQALLIN_GIVEN);
     CHECK(count == end && !memcmp(again, keys, end) && !memcmp(places, ends, 8 * rows + 8));
@@ -214,6 +221,6 @@ int main(int argc, char **argv) {
         seen[of_bounds()]++;
     }
     static const uint32_t all[] = {DOQALLIN_GIVEN, DOQALLIN_NONE, DOQALLIN_BUFFER_TOO_SMALL, DOQALLIN_NOT_UTF8, DOQALLIN_BAD_OFFSETS, DOQALLIN_UNKNOWN_KIND,
-                                   DOQALLIN_TOO_MANY_ROWS, DOQALLIN_TOO_SHORT, DOQALLIN_WRONG_LENGTH, DOQALLIN_BAD_OPTIONS, DOQALLIN_BAD_BYTES};
+                                   DOQALLIN_TOO_MANY_ROWS, DOQALLIN_TOO_SHORT, DOQALLIN_WRONG_LENGTH, DOQALLIN_BAD_OPTIONS, DOQALLIN_BAD_BYTES, DOQALLIN_NOT_A_VALUE};
     return ended(columns, seen, all, sizeof all / sizeof *all);
 }

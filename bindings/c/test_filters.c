@@ -14,18 +14,40 @@ struct test {
 
 static const long numbers[] = {0, 1, -1, 5, 100, 40000, -129};
 
+static int is_number(uint8_t kind) { return kind < DOQALLIN_BOOL || kind == DOQALLIN_F32 || kind == DOQALLIN_F64 || is_decimal(kind); }
+
 static size_t words_of(const struct test *of, uint8_t kind, char name, char *words) {
     if (of->is_null_test || kind == DOQALLIN_NULL) return (size_t)sprintf(words, "%c is null", name);
     if (kind == DOQALLIN_BOOL) return (size_t)sprintf(words, "%c = true", name);
-    if (kind < DOQALLIN_BOOL) return (size_t)sprintf(words, "%c < %ld", name, of->number);
-    return (size_t)sprintf(words, is_text(kind) ? "%c >= 'a'" : "%c >= x'61'", name);
+    if (is_number(kind)) return (size_t)sprintf(words, "%c < %ld", name, of->number);
+    if (kind == DOQALLIN_DATE32) return (size_t)sprintf(words, "%c < '1970-01-02'", name);
+    if (kind < DOQALLIN_DATE32) return (size_t)sprintf(words, is_text(kind) ? "%c >= 'a'" : "%c >= x'61'", name);
+    if (kind < DOQALLIN_TIMESTAMP_S) return (size_t)sprintf(words, "%c < '00:00:01'", name);
+    return (size_t)sprintf(words, "%c < '1970-01-01T00:00:01%s'", name, kind < DOQALLIN_TIMESTAMP_S_UTC ? "" : "Z");
+}
+
+// Whether the integer that a number is compared as has more than 38 digits: then it is no literal.
+static int is_too_long(const struct test *of, struct doqallin_kind kind) {
+    return is_decimal(kind.code) && labs(of->number) >= power(38 - kind.scale);
+}
+
+// The integer that the literal is compared as.
+static __int128 literal_of(const struct test *of, const struct doqallin_column *in) {
+    float narrow = (float)of->number;
+    double wide = (double)of->number;
+    uint64_t bits = 0;
+    if (in->kind == DOQALLIN_F32) return memcpy(&bits, &narrow, 4), stored_float(bits, 4);
+    if (in->kind == DOQALLIN_F64) return memcpy(&bits, &wide, 8), stored_float(bits, 8);
+    if (is_decimal(in->kind)) return of->number * power(in->scale);
+    if (in->kind == DOQALLIN_DATE32) return 1;
+    return is_logical(in->kind) ? power(3 * ((in->kind - DOQALLIN_TIME_S) % 4)) : of->number;
 }
 
 static int truth_of(const struct test *of, const struct doqallin_column *in, size_t row) {
     if (of->is_null_test || in->kind == DOQALLIN_NULL) return is_valid(in, row) ? NO : YES;
     if (!is_valid(in, row)) return MAYBE;
     if (in->kind == DOQALLIN_BOOL) return is_bit(in->values, in->offset + row) ? YES : NO;
-    if (in->kind < DOQALLIN_BOOL) return number_at(in, row) < of->number ? YES : NO;
+    if (has_items(in->kind)) return number_at(in, row) < literal_of(of, in) ? YES : NO;
     return start_of(in, row) < start_of(in, row + 1) && in->values[start_of(in, row)] >= 'a' ? YES : NO;
 }
 
@@ -43,15 +65,17 @@ static uint8_t form[BUFFER];
 static size_t form_length;
 
 // Prepares a filter over columns of these kinds.
-static void prepare(const uint8_t *kinds) {
+static void prepare(const struct doqallin_kind *kinds) {
     char words[200];
     static const char *const before[] = {"", "not ("}, *const after[] = {"", ")"}, *const between[] = {" or ", " and "};
     size_t at = (size_t)sprintf(words, "%s", before[negates]);
-    at += words_of(&tests[0], kinds[0], 'a', words + at);
+    at += words_of(&tests[0], kinds[0].code, 'a', words + at);
     at += (size_t)sprintf(words + at, "%s", between[joins]);
-    at += words_of(&tests[1], kinds[1], 'b', words + at);
+    at += words_of(&tests[1], kinds[1].code, 'b', words + at);
     at += (size_t)sprintf(words + at, "%s", after[negates]);
-    struct doqallin_named_kind named[] = {{(const uint8_t *)"a", 1, kinds[0]}, {(const uint8_t *)"b", 1, kinds[1]}};
+    struct doqallin_named_kind named[2];
+    for (int which = 0; which < 2; which++)
+        named[which] = (struct doqallin_named_kind){(const uint8_t *)(which ? "b" : "a"), 1, kinds[which].code, kinds[which].precision, kinds[which].scale};
     struct doqallin_mistake mistake = {77, 78};
     const uint8_t *text = exactly(6, (const uint8_t *)words, at);
     fresh();
@@ -66,22 +90,25 @@ static void prepare(const uint8_t *kinds) {
     CHECK(!status || (status == DOQALLIN_BAD_FILTER && mistake.place <= less && mistake.expected <= DOQALLIN_TOO_DEEP));
 }
 
-static int type_of(uint8_t kind) { return is_text(kind) ? DOQALLIN_UTF8 : kind == DOQALLIN_LARGE_BINARY ? DOQALLIN_BINARY : kind; }
+static int type_of(struct doqallin_kind kind) {
+    if (is_decimal(kind.code)) return DOQALLIN_DECIMAL32 + 256 * kind.precision + 65536 * kind.scale;
+    return is_text(kind.code) ? DOQALLIN_UTF8 : kind.code == DOQALLIN_LARGE_BINARY ? DOQALLIN_BINARY : kind.code;
+}
 
 // What a mask of two columns answers, with where the mistake is.
-static uint32_t plain_fault(const struct doqallin_column *two, const uint8_t *kinds, size_t rows, struct doqallin_fault *where) {
+static uint32_t plain_fault(const struct doqallin_column *two, const struct doqallin_kind *kinds, size_t rows, struct doqallin_fault *where) {
     for (where->column = 0; where->column < 2; where->column++) {
         uint32_t status = plain_check(&two[where->column], &where->place);
         if (status) return status;
         where->place = 1;
-        if (type_of(two[where->column].kind) != type_of(kinds[where->column])) return DOQALLIN_UNKNOWN_KIND;
+        if (type_of(kind_of(&two[where->column])) != type_of(kinds[where->column])) return DOQALLIN_UNKNOWN_KIND;
         where->place = 0;
         if (two[where->column].length != rows) return DOQALLIN_WRONG_LENGTH;
     }
     return DOQALLIN_GIVEN;
 }
 
-static uint32_t of_mask(const struct doqallin_column *two, const uint8_t *kinds) {
+static uint32_t of_mask(const struct doqallin_column *two, const struct doqallin_kind *kinds) {
     struct doqallin_fault where;
     size_t rows = below(20) ? two[0].length : below(9), length = rows / 8 + !!(rows % 8);
     uint32_t status = plain_fault(two, kinds, rows, &where);
@@ -142,7 +169,7 @@ static uint32_t of_any_bytes(const struct doqallin_column *two) {
     CHECK(!status || status == DOQALLIN_BAD_BYTES || status == DOQALLIN_WRONG_LENGTH || status == DOQALLIN_UNKNOWN_KIND);
     CHECK(status != DOQALLIN_BAD_BYTES || (fault.column == 2 && fault.place <= length));
     uint32_t told = doqallin_filter_outcomes(filter, length, bytes, end, offsets, below(8) ? 5 : below(6), 256, zones, below(8) ? 2 : many % 3, &fault);
-    CHECK(!told || told == DOQALLIN_BAD_BYTES || told == DOQALLIN_WRONG_LENGTH || told == DOQALLIN_BAD_OFFSETS);
+    CHECK(!told || told == DOQALLIN_BAD_BYTES || told == DOQALLIN_WRONG_LENGTH || told == DOQALLIN_BAD_OFFSETS || told == DOQALLIN_NOT_A_VALUE);
     return told;
 }
 
@@ -152,8 +179,11 @@ int main(int argc, char **argv) {
         size_t rows = below(ROWS);
         struct doqallin_column two[] = {some_column(0, rows), some_column(3, rows)};
         struct test some[] = {{!below(4), numbers[below(7)]}, {!below(4), numbers[below(7)]}};
-        uint8_t kinds[2];
-        for (int which = 0; which < 2; which++) kinds[which] = two[which].kind <= DOQALLIN_NULL && below(20) ? two[which].kind : below(14);
+        struct doqallin_kind kinds[2];
+        for (int which = 0; which < 2; which++) {
+            kinds[which] = is_kind(&two[which]) && below(20) ? kind_of(&two[which]) : (struct doqallin_kind){below(29), 0, 0};
+            some[which].is_null_test |= is_too_long(&some[which], kinds[which]);
+        }
         tests = some, joins = below(2), negates = below(2);
         prepare(kinds);
         uint32_t status = of_mask(two, kinds);
@@ -164,6 +194,7 @@ int main(int argc, char **argv) {
         offsets[0] = 0;
     }
     static const uint32_t all[] = {DOQALLIN_GIVEN, DOQALLIN_NOT_UTF8, DOQALLIN_BAD_OFFSETS, DOQALLIN_UNKNOWN_KIND, DOQALLIN_TOO_MANY_ROWS,
-                                   DOQALLIN_TOO_SHORT, DOQALLIN_BAD_BYTES, DOQALLIN_WRONG_LENGTH, DOQALLIN_BUFFER_TOO_SMALL};
+                                   DOQALLIN_TOO_SHORT, DOQALLIN_BAD_BYTES, DOQALLIN_WRONG_LENGTH, DOQALLIN_BUFFER_TOO_SMALL,
+                                   DOQALLIN_NOT_A_VALUE};
     return ended(columns, seen, all, sizeof all / sizeof *all);
 }

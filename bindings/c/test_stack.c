@@ -6,7 +6,7 @@
 
 // What doqallin.h says under Stack.
 #define MOST 6144
-#define MOST_OF_STATISTICS 12288
+#define MOST_OF_STATISTICS 14336
 #define SIZE ((size_t)1 << 16)
 
 static struct doqallin_column two[2];
@@ -26,17 +26,23 @@ static uint8_t form[BUFFER];
 static size_t form_length;
 static struct doqallin_statistics_parts parts;
 static void statistics(void) { doqallin_column_statistics(&two[0], n, buffer, BUFFER, &count, &fault); }
-static void merge(void) { doqallin_merge_statistics(two[0].kind, form, form_length, form, form_length, buffer, BUFFER, &count, &fault); }
-static void read_parts(void) { doqallin_read_statistics(two[0].kind, form, form_length, buffer, BUFFER, other, BUFFER, &parts, &fault); }
+static void merge(void) {
+    struct doqallin_kind kind = kind_of(&two[0]);
+    doqallin_merge_typed(&kind, form, form_length, form, form_length, buffer, BUFFER, &count, &fault);
+}
+static void read_parts(void) {
+    struct doqallin_kind kind = kind_of(&two[0]);
+    doqallin_read_typed(&kind, form, form_length, buffer, BUFFER, other, BUFFER, &parts, &fault);
+}
 
 static uint8_t row_keys[BUFFER];
 static uint64_t row_ends[ROWS + 2], ends[ROWS + 2];
 static uint8_t more[BUFFER], values[BUFFER];
 static size_t keys_length, rows_of_keys;
 static void back(void) {
-    const uint8_t kinds[] = {two[0].kind, two[1].kind};
+    const struct doqallin_kind kinds[] = {kind_of(&two[0]), kind_of(&two[1])};
     struct doqallin_column_buffers columns[] = {{other, BUFFER, buffer, BUFFER, places, ROWS + 2, 0}, {more, BUFFER, values, BUFFER, ends, ROWS + 2, 0}};
-    doqallin_columns_of_row_keys(kinds, 2, options, 2, row_ends, rows_of_keys + 1, row_keys, keys_length, columns, 2, &fault);
+    doqallin_columns_of_typed_keys(kinds, 2, options, 2, row_ends, rows_of_keys + 1, row_keys, keys_length, columns, 2, &fault);
 }
 
 static void (*const calls[])(void) = {cast, front, keys, back, bytes_bounds, text_bounds, upper_bound, statistics, merge, read_parts};

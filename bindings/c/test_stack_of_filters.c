@@ -30,7 +30,7 @@ static size_t form_length, depth;
 static uint32_t status;
 
 static void *prepare(void *unused) {
-    static const struct doqallin_named_kind schema[] = {{TEXT("n"), DOQALLIN_I16}, {TEXT("s"), DOQALLIN_UTF8}};
+    static const struct doqallin_named_kind schema[] = {{TEXT("n"), DOQALLIN_I16, 0, 0}, {TEXT("s"), DOQALLIN_UTF8, 0, 0}};
     struct doqallin_mistake mistake;
     status = doqallin_prepare_filter((const uint8_t *)words, strlen(words), schema, 2, depth, form, sizeof form, &form_length, &mistake);
     return unused;
@@ -48,8 +48,8 @@ static void *outcomes(void *unused) {
 static void *mask(void *unused) {
     static const uint8_t numbers[] = {3, 0, 7, 0}, ends[] = {0, 0, 0, 0, 30, 0, 0, 0, 31, 0, 0, 0};
     static const struct doqallin_column two[] = {
-        {DOQALLIN_I16, numbers, 0, numbers, 4, numbers, 0, 0, 2},
-        {DOQALLIN_UTF8, numbers, 0, TEXT("0123456789012345678901234567890"), ends, sizeof ends, 0, 2},
+        {DOQALLIN_I16, 0, 0, numbers, 0, numbers, 4, numbers, 0, 0, 2},
+        {DOQALLIN_UTF8, 0, 0, numbers, 0, TEXT("0123456789012345678901234567890"), ends, sizeof ends, 0, 2},
     };
     struct doqallin_fault fault;
     status = doqallin_filter_mask(form, form_length, two, 2, 2, depth, buffer, sizeof buffer, &fault);

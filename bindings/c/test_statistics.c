@@ -19,7 +19,7 @@ struct statistics {
 };
 
 static int compare_rows(const struct doqallin_column *of, size_t i, size_t k) {
-    if (of->kind < DOQALLIN_BOOL) {
+    if (has_items(of->kind)) {
         __int128 x = number_at(of, i), y = number_at(of, k);
         return x < y ? -1 : x > y;
     }
@@ -32,10 +32,15 @@ static int compare_rows(const struct doqallin_column *of, size_t i, size_t k) {
 // A bound of the value of a row, cut to so many bytes.
 static struct bound bound_of(const struct doqallin_column *of, size_t row, size_t most, int is_upper) {
     struct bound made = {{0}, 0, 1, 1};
-    if (of->kind <= DOQALLIN_BOOL) {
-        made.length = of->kind == DOQALLIN_BOOL ? 1 : (size_t)1 << of->kind % 4;
-        memcpy(made.bytes, of->values + (of->offset + row) * made.length, of->kind == DOQALLIN_BOOL ? 0 : made.length);
-        if (of->kind == DOQALLIN_BOOL) made.bytes[0] = (uint8_t)is_bit(of->values, of->offset + row);
+    if (of->kind == DOQALLIN_BOOL) {
+        made.length = 1;
+        made.bytes[0] = (uint8_t)is_bit(of->values, of->offset + row);
+        return made;
+    }
+    if (has_items(of->kind)) {
+        __int128 item = item_of(of->kind, number_at(of, row));
+        made.length = widths[of->kind];
+        memcpy(made.bytes, &item, made.length);
         return made;
     }
     const uint8_t *value = of->values + start_of(of, row);
@@ -72,21 +77,48 @@ static size_t put_count(size_t at, uint64_t number) {
     return at;
 }
 
-static size_t put_bound(size_t at, uint8_t kind, const struct bound *of) {
-    uint8_t ends_of[8] = {0};
-    uint8_t small = kind <= DOQALLIN_BOOL ? kind : is_text(kind) ? DOQALLIN_UTF8 : DOQALLIN_BINARY, bit = of->bytes[0];
+static size_t put_bound(size_t at, const struct doqallin_column *column, const struct bound *of) {
+    uint8_t ends_of[8] = {0}, kind = column->kind;
+    uint8_t small = !has_bytes(kind) ? kind : is_text(kind) ? DOQALLIN_UTF8 : DOQALLIN_BINARY, bit = of->bytes[0];
     uint32_t length = (uint32_t)of->length;
     memcpy(ends_of + 4, &length, 4);
-    struct doqallin_column one = {small, NULL, 0, kind == DOQALLIN_BOOL ? &bit : of->bytes, of->length, ends_of, 8, 0, 1};
+    struct doqallin_column one = {small, column->precision, column->scale, NULL, 0, kind == DOQALLIN_BOOL ? &bit : of->bytes, of->length, ends_of, 8, 0, 1};
     return of->is_there ? plain_key(&one, 0, 2, at) : at;
 }
 
+// The name of a logical type: its own number, the precision of decimals or the unit, the smallest first, and the scale or whether there
+// is a zone.
+static size_t put_name(size_t at, const struct doqallin_column *of) {
+    static const uint8_t names[] = {2, 1, 4, 5, 5, 5, 5, 6, 6, 6, 6, 6, 6, 6, 6, 3, 3, 3};
+    if (!is_logical(of->kind)) return at;
+    int unit = 3 - (of->kind - DOQALLIN_TIME_S) % 4, is_zoned = of->kind >= DOQALLIN_TIMESTAMP_S_UTC;
+    uint8_t number = names[of->kind - DOQALLIN_F32];
+    at = put(put(at, 2, 0), number, 0);
+    at = put(at, number == 3 ? of->precision : number == 4 ? 4 : number > 4 ? (unsigned)unit : 0, 0);
+    return put(at, number == 3 ? of->scale : number == 6 ? (unsigned)is_zoned : 0, 0);
+}
+
 // Writes the encoding of the statistics; returns its length.
-static size_t plain_form(uint8_t kind, const struct statistics *of) {
-    size_t at = put(0, 1, 0);
+static size_t plain_form(const struct doqallin_column *column, const struct statistics *of) {
+    size_t at = put(put_name(0, column), 1, 0);
     at = put(at, 1 + 2 * of->lower.is_there + 4 * of->lower.is_exact + 8 * of->upper.is_there + 16 * of->upper.is_exact, 0);
     at = put_count(put_count(at, of->rows), of->nulls);
-    return put_bound(put_bound(at, kind, &of->lower), kind, &of->upper);
+    return put_bound(put_bound(at, column, &of->lower), column, &of->upper);
+}
+
+// The calls take a code alone, but of decimals: then they are those of the same name with a kind.
+static uint32_t read_of(const struct doqallin_column *of, const uint8_t *bytes, size_t length, size_t lower_length, size_t upper_length,
+                        struct doqallin_statistics_parts *parts) {
+    struct doqallin_kind kind = kind_of(of);
+    if (is_decimal(of->kind) || below(2))
+        return doqallin_read_typed(&kind, bytes, length, lower_buffer, lower_length, upper_buffer, upper_length, parts, &fault);
+    return doqallin_read_statistics(of->kind, bytes, length, lower_buffer, lower_length, upper_buffer, upper_length, parts, &fault);
+}
+
+static uint32_t merge_of(const struct doqallin_column *of, const uint8_t *one, size_t one_length, const uint8_t *other, size_t other_length, size_t size) {
+    struct doqallin_kind kind = kind_of(of);
+    if (is_decimal(of->kind) || below(2)) return doqallin_merge_typed(&kind, one, one_length, other, other_length, buffer, size, &count, &fault);
+    return doqallin_merge_statistics(of->kind, one, one_length, other, other_length, buffer, size, &count, &fault);
 }
 
 static uint32_t of_statistics(const struct doqallin_column *some, size_t most, size_t *length) {
@@ -99,7 +131,7 @@ static uint32_t of_statistics(const struct doqallin_column *some, size_t most, s
         return status;
     }
     struct statistics told = plain_statistics(some, most);
-    *length = plain_form(some->kind, &told);
+    *length = plain_form(some, &told);
     CHECK(doqallin_column_statistics(some, most, buffer, *length, &count, &fault) == DOQALLIN_GIVEN);
     CHECK(count == *length && !memcmp(buffer, wanted, *length) && is_kept(*length, 0) && fault.column == 77);
     fresh();
@@ -123,20 +155,20 @@ static void of_parts(const struct doqallin_column *some, size_t most, size_t len
     fresh();
     memset(lower_buffer, 'q', BUFFER);
     memset(upper_buffer, 'q', BUFFER);
-    CHECK(doqallin_read_statistics(some->kind, form, length, lower_buffer, told.lower.length, upper_buffer, told.upper.length, &parts, &fault) == DOQALLIN_GIVEN);
+    CHECK(read_of(some, form, length, told.lower.length, told.upper.length, &parts) == DOQALLIN_GIVEN);
     CHECK(parts.row_count == told.rows && parts.has_null_count && parts.null_count == told.nulls && fault.column == 77);
     CHECK(is_told(&told.lower, parts.has_lower, parts.lower_is_exact, lower_buffer, parts.lower_length));
     CHECK(is_told(&told.upper, parts.has_upper, parts.upper_is_exact, upper_buffer, parts.upper_length));
     if (told.lower.length) {
         parts.lower_length = 0;
-        CHECK(doqallin_read_statistics(some->kind, form, length, lower_buffer, told.lower.length - 1, upper_buffer, BUFFER, &parts, &fault) == DOQALLIN_BUFFER_TOO_SMALL);
+        CHECK(read_of(some, form, length, told.lower.length - 1, BUFFER, &parts) == DOQALLIN_BUFFER_TOO_SMALL);
         CHECK(parts.lower_length == told.lower.length && parts.upper_length == told.upper.length);
     }
     // Both pieces the same: twice the rows, and the same bounds.
     told.rows *= 2, told.nulls *= 2;
-    size_t doubled = plain_form(some->kind, &told);
+    size_t doubled = plain_form(some, &told);
     fresh();
-    CHECK(doqallin_merge_statistics(some->kind, form, length, form, length, buffer, doubled, &count, &fault) == DOQALLIN_GIVEN);
+    CHECK(merge_of(some, form, length, form, length, doubled) == DOQALLIN_GIVEN);
     CHECK(count == doubled && !memcmp(buffer, wanted, doubled) && is_kept(doubled, 0) && fault.column == 77);
 }
 
@@ -151,14 +183,14 @@ static void of_pieces(const struct doqallin_column *some, size_t most, const uin
     CHECK(!doqallin_column_statistics(&other, most, rest, BUFFER, &rest_length, &fault));
     fresh();
     const uint8_t *held = exactly(6, first, first_length), *also = exactly(7, rest, rest_length);
-    CHECK(doqallin_merge_statistics(some->kind, held, first_length, also, rest_length, buffer, first_length + rest_length, &count, &fault) == DOQALLIN_GIVEN);
+    CHECK(merge_of(some, held, first_length, also, rest_length, first_length + rest_length) == DOQALLIN_GIVEN);
     CHECK(count <= first_length + rest_length && is_kept(count, 0) && fault.column == 77);
-    int is_cut = some->kind > DOQALLIN_BOOL && some->kind < DOQALLIN_NULL;
+    int is_cut = has_bytes(some->kind);
     CHECK(is_cut ? !memcmp(buffer + 2, form + 2, 16) : count == length && !memcmp(buffer, form, length));
 }
 
-// An encoding with bytes changed, or cut short: it is read, or the first byte is told that is not of it.
-static uint32_t of_any_bytes(uint8_t kind, const uint8_t *form, size_t length) {
+// An encoding with bytes changed, or cut short: it is read, or the first byte is told that is not of it, or a bound is of no value.
+static uint32_t of_any_bytes(const struct doqallin_column *some, const uint8_t *form, size_t length) {
     uint8_t changed[BUFFER];
     static const uint8_t likely[] = {0, 1, 2, 12, 13, 21, 22, 31, 255};
     memcpy(changed, form, length);
@@ -167,10 +199,11 @@ static uint32_t of_any_bytes(uint8_t kind, const uint8_t *form, size_t length) {
     const uint8_t *bytes = exactly(6, changed, length);
     struct doqallin_statistics_parts parts = {0, 0, 0, 0, false, false, false, false, false};
     fresh();
-    uint32_t status = doqallin_read_statistics(kind, bytes, length, lower_buffer, BUFFER, upper_buffer, BUFFER, &parts, &fault);
-    CHECK(status == DOQALLIN_GIVEN ? fault.column == 77 : status == DOQALLIN_BAD_BYTES && fault.column == 0 && fault.place <= length);
+    uint32_t status = read_of(some, bytes, length, BUFFER, BUFFER, &parts);
+    int is_none = status == DOQALLIN_NOT_A_VALUE && is_logical(some->kind) && fault.place == 0;
+    CHECK(status == DOQALLIN_GIVEN ? fault.column == 77 : (status == DOQALLIN_BAD_BYTES || is_none) && fault.column == 0 && fault.place <= length);
     size_t place = fault.place;
-    uint32_t merged = doqallin_merge_statistics(kind, bytes, length, bytes, length, buffer, BUFFER, &count, &fault);
+    uint32_t merged = merge_of(some, bytes, length, bytes, length, BUFFER);
     CHECK(status == merged ? !status || (fault.column == 0 && fault.place == place) : !status && merged == DOQALLIN_TOO_MANY_ROWS);
     return merged;
 }
@@ -187,8 +220,9 @@ int main(int argc, char **argv) {
         memcpy(form, wanted, length);
         of_parts(&some, most, length);
         of_pieces(&some, most, form, length);
-        seen[of_any_bytes(some.kind, form, length)]++;
+        seen[of_any_bytes(&some, form, length)]++;
     }
-    static const uint32_t all[] = {DOQALLIN_GIVEN, DOQALLIN_NOT_UTF8, DOQALLIN_BAD_OFFSETS, DOQALLIN_UNKNOWN_KIND, DOQALLIN_TOO_MANY_ROWS, DOQALLIN_TOO_SHORT, DOQALLIN_BAD_BYTES};
+    static const uint32_t all[] = {DOQALLIN_GIVEN, DOQALLIN_NOT_UTF8, DOQALLIN_BAD_OFFSETS, DOQALLIN_UNKNOWN_KIND, DOQALLIN_TOO_MANY_ROWS, DOQALLIN_TOO_SHORT, DOQALLIN_BAD_BYTES,
+                                   DOQALLIN_NOT_A_VALUE};
     return ended(columns, seen, all, sizeof all / sizeof *all);
 }

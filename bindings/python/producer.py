@@ -206,8 +206,8 @@ def bitmap(bits: list[bool]) -> bytes:
 WIDTHS = {"C": 1, "c": 1, "S": 2, "s": 2, "I": 4, "i": 4, "L": 8, "l": 8}
 
 
-def layout(source: random.Random, form: str, values: list[Any], name: str = "", integers: str = "") -> Layout:
-    """The values, laid out after some rows of rubbish, and before some. `integers` is the format of what a time stores."""
+def layout(source: random.Random, form: str, values: list[Any], name: str = "", width: int = 0) -> Layout:
+    """The values, laid out after some rows of rubbish, and before some. `width` is that of items which are given as bytes."""
     before, after = source.choice([0, 0, 1, 3, 7, 8, 9, 13]), source.choice([0, 0, 1, 5])
     length = len(values)
     nulls = values.count(None)
@@ -220,12 +220,12 @@ def layout(source: random.Random, form: str, values: list[Any], name: str = "", 
         bits = [bool(source.getrandbits(1)) for _ in range(total)]
         bits[before : before + length] = [bits[before + row] if value is None else value for row, value in enumerate(values)]
         return Layout(form, [validity, bitmap(bits)], before, length, source.choice([nulls, -1]), name)
-    if form in WIDTHS or integers:
-        width, signed = WIDTHS[integers or form], (integers or form).islower()
-        items = [source.randbytes(width) for _ in range(total)]
+    if form in WIDTHS or width:
+        size = width or WIDTHS[form]
+        items = [source.randbytes(size) for _ in range(total)]
         for row, value in enumerate(values):
             if value is not None:
-                items[before + row] = value.to_bytes(width, "little", signed=signed)
+                items[before + row] = value if width else value.to_bytes(size, "little", signed=form.islower())
         return Layout(form, [validity, b"".join(items)], before, length, source.choice([nulls, -1]), name)
     texts = [source.choice([b"", b"rubbish", b"\xc3"]) for _ in range(total)]
     for row, value in enumerate(values):

@@ -6,7 +6,7 @@ from array import array
 from itertools import accumulate
 
 import doqallin
-from doqallin import Filter, Kind, LibraryMissing, ZoneBounds, Zones, cast, row_keys, scalar, statistics
+from doqallin import Filter, Kind, LibraryMissing, ZoneBounds, Zones, cast, column, row_keys, scalar, sort_rows, statistics
 
 
 def seconds(call, calls: int) -> float:
@@ -51,8 +51,24 @@ def columns() -> None:
         return made
 
     compare_columns("the statistics of a million i64, beside min and max", lambda: statistics(numbers), lambda: (numbers.min(), numbers.max()), "3")
+    floats = numbers / 64
+    compare_columns("the statistics of a million f64, beside min and max", lambda: statistics(floats), lambda: (floats.min(), floats.max()), "4")
+    prices = Filter("price > 1000.5 and price <= 100000", {"price": "f64"})
+    compare_columns("the mask of a million f64", lambda: prices.mask({"price": floats}), lambda: (floats > 1000.5) & (floats <= 100_000))
     compare_columns("a cast of a million i64 to i32", lambda: cast(numbers, "i32"), plain_cast, "1")
     compare_columns("the keys of a million i64, beside sorting", lambda: row_keys([numbers]), lambda: numbers.argsort())
+    orders(numpy, numbers)
+
+
+def orders(numpy, numbers) -> None:
+    """The order of a million rows of two columns."""
+    places = numpy.arange(len(numbers)) * 2_654_435_761 % 300
+    names = numpy.array([f"town number {number}" for number in range(300)])[places]
+    towns = column(names.tolist())
+    compare_columns("the order of a million strings and i64", lambda: sort_rows([towns, numbers]), lambda: numpy.lexsort((numbers, names)), "0.33")
+    compare_columns("the order of a million rows of two i64", lambda: sort_rows([places, numbers]), lambda: numpy.lexsort((numbers, places)))
+    found = Filter("x > 0", {"x": "i64"}).mask({"x": numbers})
+    compare_columns("the rows of a mask", lambda: numbers[found], lambda: numbers[numbers > 0])
 
 
 def filters() -> None:

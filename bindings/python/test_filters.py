@@ -11,7 +11,7 @@ from typing import Any
 
 import doqallin
 from doqallin import Filter, Outcomes, Zones, column, columns, statistics
-from producer import Chunks, layout, struct_of
+from producer import Chunks, Layout, layout, struct_of
 from test_columns import COUNT, Released
 
 SCHEMA = {"n": "i16", "big number": "i64", "truth": "bool", "city": "utf8", "data": "binary"}
@@ -103,12 +103,22 @@ class OfFilters(Released):
 
     def test_a_stream_is_masked(self) -> None:
         source = random.Random(61)
-        parts = [struct_of(source, (layout(source, "l", values, "a"), layout(source, "f", [], "left out")), len(values)) for values in ([1, 5], [], [None, 7])]
-        found = Filter("a > 3", {"a": "i64"})
-        with self.assertRaises(doqallin.UnknownKind):
-            found.mask(Chunks(parts[0], parts))
-        parts = [struct_of(source, (layout(source, "l", values, "a"),), len(values)) for values in ([1, 5], [], [None, 7])]
-        self.assertEqual(found.mask(Chunks(parts[0], parts)).to_list(), [False, True, False, True])
+        found = Filter("a > 3", {"a": "i64", "b": "i64"})
+        # A column that the filter does not name is not looked at: it may lack its rows, or be of a format that is not read.
+        for odd in [(), (Layout("e", [], 0, 0, 0, "b"),), (Layout("+l", [], 5, 9, 0, "b"), Layout("l", [], -1, -1, 0, "b"))]:
+            parts = [struct_of(source, (layout(source, "l", values, "a"), *odd), len(values)) for values in ([1, 5], [], [None, 7])]
+            self.assertEqual(found.mask(Chunks(parts[0], parts)).to_list(), [False, True, False, True])
+            for part in parts:
+                self.assertEqual(Filter("true", {}).mask(part).to_list(), [True] * part.length)
+            if odd:
+                with self.assertRaises((doqallin.UnknownKind, doqallin.NoColumn)):
+                    Filter("a > 3 or b = 1", {"a": "i64", "b": "i64"}).mask(Chunks(parts[0], parts))
+        self.assertEqual(found.mask({"a": [1, 5], "b": object()}).to_list(), [False, True])
+        schema = {"fare": "i64", "far": "i64", "a": "i64", 'the "b"': "i64", "Oslo": "i64", "": "i64"}
+        table = {"fare": [1, 5], "far": object(), "a": object(), 'the "b"': [7, 8]}
+        self.assertEqual(Filter("fare > 3 and \"the \"\"b\"\"\" = 8", schema).mask(table).to_list(), [False, True])
+        self.assertEqual(Filter("city = 'Oslo'", {"city": "utf8", **schema}).mask({"city": ["Oslo"]}).to_list(), [True])
+        self.assertEqual(Filter("$2 > 3", {"b": "i64", "a": "i64"}).mask({"a": [1, 5], "b": [0, 0]}).to_list(), [False, True])
         self.assertEqual(found.mask([4, 3]).to_list(), [True, False])
 
     def test_kinds(self) -> None:
@@ -119,7 +129,7 @@ class OfFilters(Released):
         with self.assertRaises(doqallin.NoColumn):
             found.mask({"town": ["Oslo"]})
         with self.assertRaises(doqallin.UnknownKind):
-            Filter("x = 1", {"x": "f64"})
+            Filter("x = 1", {"x": "f16"})
         with self.assertRaises(doqallin.BadBytes):
             found.may_match({"city": statistics([1])})
         self.assertEqual(found.outcomes({}), Outcomes(7))

@@ -2,8 +2,9 @@
 # SPDX-FileCopyrightText: Copyright the Vortex contributors; ported to Rattle and changed
 """Columns and scalars: statistics, filters that skip what cannot match, keys that sort, and casts that never change a value.
 
-A column is what has Arrow data (`__arrow_c_array__` or `__arrow_c_stream__`), a
-buffer of integers (as a numpy array is), or a list. Arrow data and buffers are read where they lie.
+A column is what has Arrow data (`__arrow_c_array__` or `__arrow_c_stream__`), a buffer of numbers (as an array of numpy is), a
+Series of pandas, or a list. Arrow data and buffers are read where they lie. Columns have integers, floats, decimals, dates, times,
+timestamps, bools, strings or bytes.
 
 Statistics of a column are its counts of rows and nulls, and bounds. Those of parts give those of the whole, in any grouping:
 
@@ -11,7 +12,9 @@ Statistics of a column are its counts of rows and nulls, and bounds. Those of pa
 >>> first | second
 Statistics('utf8', rows=4, nulls=1, lower='Bergen', upper='Oslo')
 
-A filter, in SQL's words, tells by statistics which parts of a table need not be read, and tests the rows of those that do:
+Floats sort as in PostgreSQL, and not as in Python: NaN is equal to itself and above infinity, and -0.0 equals 0.0.
+
+A filter, in SQL's words, says by statistics which parts of a table need not be read, and tests the rows of the others:
 
 >>> wanted = Filter("city = 'Oslo'", {"city": "utf8?"})
 >>> wanted.prune([{"city": first}, {"city": second}])
@@ -23,8 +26,12 @@ Keys of rows sort by their bytes as the rows do, so a store or an index needs no
 
 >>> [key.hex() for key in row_keys([["b", "a"], [1, None]])]
 ['1562000d01', '15610001']
+>>> sort_rows([["b", "a"], [1, None]])
+Column('i64', [1, 0])
 >>> cast([200, None, 7], "u8")
 Column('u8', [200, None, 7])
+
+What comes out is Arrow data too: a `Column`, and a `table` of columns, go on into pyarrow, polars, DuckDB or pandas uncopied.
 
 A scalar is a type and a value, with casts, an order and a key:
 
@@ -64,6 +71,7 @@ from ._errors import (
     NoField,
     NoOrder,
     NotANumber,
+    NotAValue,
     NotUtf8,
     OutOfMemory,
     Refused,
@@ -78,9 +86,12 @@ from ._filters import Filter, Outcomes, Zones
 from ._keys import from_row_keys, row_keys
 from ._kinds import Kind
 from ._library import call, library_version
-from ._reading import column, columns
+from ._literals import literal
+from ._reading import column, columns, table
 from ._scalars import Scalar, scalar
-from ._statistics import Statistics, statistics
+from ._sorting import sort_rows
+from ._statistics import Statistics, TableStatistics, statistics
+from ._tables import Table
 from ._types import DType, dtype
 
 __all__ = [
@@ -105,6 +116,7 @@ __all__ = [
     "NoField",
     "NoOrder",
     "NotANumber",
+    "NotAValue",
     "NotUtf8",
     "OutOfMemory",
     "Outcomes",
@@ -112,6 +124,8 @@ __all__ = [
     "Scalar",
     "Statistics",
     "StreamFailed",
+    "Table",
+    "TableStatistics",
     "TooDeep",
     "TooManyRows",
     "TooShort",
@@ -128,11 +142,14 @@ __all__ = [
     "dtype",
     "from_row_keys",
     "library_version",
+    "literal",
     "lower_bound",
     "lower_bound_text",
     "row_keys",
     "scalar",
+    "sort_rows",
     "statistics",
+    "table",
     "upper_bound",
     "upper_bound_text",
 ]

@@ -5,80 +5,18 @@
 from __future__ import annotations
 
 import ctypes
-from collections.abc import Iterator
+from collections.abc import Callable, Iterator
 from contextlib import contextmanager
-from ctypes import CFUNCTYPE, POINTER, byref, c_char_p, c_int, c_int64, c_void_p
-from typing import Any
+from ctypes import byref, c_char_p, c_int64, c_void_p
+from typing import Any, NamedTuple
 
-from ._columns import (
-    BINARY,
-    BOOL,
-    CODES,
-    EMPTY,
-    LARGE_BINARY,
-    LARGE_UTF8,
-    NULL,
-    UTF8,
-    WHY_NO_DECIMALS,
-    WHY_NO_FLOATS,
-    Buffer,
-    Column,
-    bitmap_of,
-    bits_of,
-    buffer_of,
-)
+from ._columns import EMPTY, Buffer, Column, bitmap_of, bits_of, buffer_of
 from ._errors import StreamFailed, TooShort, UnknownKind
-from ._kinds import FORMATS, WIDTHS
+from ._interface import CAPSULES, Array, Schema, Stream, kind_of_format
+from ._kinds import BINARY, NULL, UTF8, ColumnKind
+from ._tables import Batch, Table, table_of
 
 __all__: list[str] = []
-
-
-class Schema(ctypes.Structure):
-    pass
-
-
-class Array(ctypes.Structure):
-    pass
-
-
-class Stream(ctypes.Structure):
-    pass
-
-
-_ReleaseSchema = CFUNCTYPE(None, POINTER(Schema))
-_ReleaseArray = CFUNCTYPE(None, POINTER(Array))
-_ReleaseStream = CFUNCTYPE(None, POINTER(Stream))
-
-Schema._fields_ = [
-    ("format", c_char_p),
-    ("name", c_char_p),
-    ("metadata", c_void_p),
-    ("flags", c_int64),
-    ("n_children", c_int64),
-    ("children", POINTER(POINTER(Schema))),
-    ("dictionary", POINTER(Schema)),
-    ("release", _ReleaseSchema),
-    ("private_data", c_void_p),
-]
-Array._fields_ = [
-    ("length", c_int64),
-    ("null_count", c_int64),
-    ("offset", c_int64),
-    ("n_buffers", c_int64),
-    ("n_children", c_int64),
-    ("buffers", POINTER(c_void_p)),
-    ("children", POINTER(POINTER(Array))),
-    ("dictionary", POINTER(Array)),
-    ("release", _ReleaseArray),
-    ("private_data", c_void_p),
-]
-Stream._fields_ = [
-    ("get_schema", CFUNCTYPE(c_int, POINTER(Stream), POINTER(Schema))),
-    ("get_next", CFUNCTYPE(c_int, POINTER(Stream), POINTER(Array))),
-    ("get_last_error", CFUNCTYPE(c_char_p, POINTER(Stream))),
-    ("release", _ReleaseStream),
-    ("private_data", c_void_p),
-]
 
 _pointer_of = ctypes.PYFUNCTYPE(c_void_p, ctypes.py_object, c_char_p)(("PyCapsule_GetPointer", ctypes.pythonapi))
 
@@ -86,10 +24,10 @@ _pointer_of = ctypes.PYFUNCTYPE(c_void_p, ctypes.py_object, c_char_p)(("PyCapsul
 class Held:
     """A structure that was taken over from a capsule, or given by a stream. It is released once."""
 
-    def __init__(self, structure: Any, capsule: object = None, name: bytes = b"") -> None:
+    def __init__(self, structure: Any, capsule: object = None) -> None:
         self.structure = structure
         if capsule is not None:
-            source = _pointer_of(capsule, name)
+            source = _pointer_of(capsule, CAPSULES[type(structure)])
             ctypes.memmove(byref(structure), source, ctypes.sizeof(structure))
             if not structure.release:
                 raise ValueError("the capsule was released before")
@@ -105,46 +43,49 @@ class Held:
     __del__ = release
 
 
-_CODES = {
-    **{letter: code for code, letter in enumerate(FORMATS)},
-    **{"n": NULL, "b": BOOL, "u": UTF8, "U": LARGE_UTF8, "z": BINARY, "Z": LARGE_BINARY},
-    # Dates and times go by their integers, and so do timestamps, which have a zone behind a colon, and durations.
-    **dict.fromkeys(["tdD", "tts", "ttm"], CODES["i32"]),
-    **dict.fromkeys(["tdm", "ttu", "ttn"], CODES["i64"]),
+# What is not read, and the call that makes it plain.
+_OTHERS = {
+    "e": "float16 is not taken: cast it to float32, as by .cast('float32')",
+    "vu": "a view of strings is not read: cast it to string, as by pyarrow's .cast('string') or polars' .to_arrow()",
+    "vz": "a view of bytes is not read: cast it to binary, as by pyarrow's .cast('binary') or polars' .to_arrow()",
+    "w:": "bytes of fixed size are not read: cast them to binary, as by .cast('binary')",
+    "tD": "a duration is not taken: cast it to int64, as by .cast('int64')",
+    "ti": "an interval is not read",
+    "+l": "a list is not read",
+    "+L": "a list is not read",
+    "+v": "a view of lists is not read, nor is a list",
+    "+w": "a list of fixed size is not read",
+    "+m": "a map is not read",
+    "+u": "a union is not read",
+    "+r": "a run-end encoded column is not read: decode it first, as by pyarrow.compute.run_end_decode",
+    "+s": "a struct within a struct is not read: give its columns, as by pyarrow's .flatten() or polars' .unnest(..)",
 }
-_FLOATS = {"e": "float16", "f": "float32", "g": "float64"}
-_NAMES = {
-    "vu": "a view of strings",
-    "vz": "a view of bytes",
-    "w:": "bytes of fixed size",
-    "ti": "an interval",
-    "+l": "a list",
-    "+L": "a list",
-    "+v": "a view of lists",
-    "+w": "a list of fixed size",
-    "+m": "a map",
-    "+u": "a union",
-    "+r": "run-end encoded",
-    "+s": "a struct within a struct",
-}
+_DICTIONARY = "a column by a dictionary is not read: decode it first, as by .cast('string') if it has strings"
+_DECIMAL = "decimals are taken to 38 digits, with a scale from 0 to the precision: cast it, as by .cast(pyarrow.decimal128(38, 2))"
 
 
-def _code_of(schema: Schema) -> int:
-    """The kind of a format."""
-    text = schema.format.decode()
-    of = f"column {schema.name.decode(errors='replace')!r}: " if schema.name else ""
-    if schema.dictionary:
-        raise UnknownKind(f"{of}a column by a dictionary is not read: decode it first")
-    code = _CODES.get(text)
-    if code is None and text[:2] in ("ts", "tD") and text[2:3] in ("s", "m", "u", "n"):
-        code = 7
-    if code is not None:
-        return code
-    if text in _FLOATS:
-        raise UnknownKind(f"{of}{_FLOATS[text]}: {WHY_NO_FLOATS}")
-    if text.startswith("d:"):
-        raise UnknownKind(f"{of}decimal: {WHY_NO_DECIMALS}")
-    raise UnknownKind(f"{of}{_NAMES.get(text[:2], 'of the format')} ({text}) is not read")
+class Field(NamedTuple):
+    """What a schema says of a column."""
+
+    name: str
+    format: str
+    has_dictionary: bool
+
+    @classmethod
+    def of(cls, schema: Schema) -> Field:
+        # A name that is no UTF-8 is another name, and no mistake of the table.
+        name = (schema.name or b"").decode(errors="surrogateescape")
+        return cls(name, schema.format.decode(errors="replace"), bool(schema.dictionary))
+
+    def kind(self) -> ColumnKind:
+        """The kind of the format."""
+        kind = None if self.has_dictionary else kind_of_format(self.format)
+        if kind is not None:
+            return kind
+        words = _DECIMAL if self.format.startswith("d:") else _OTHERS.get(self.format[:2], "the format is not read")
+        if self.has_dictionary:
+            words = _DICTIONARY
+        raise UnknownKind(f"{f'column {self.name!r}: ' if self.name else ''}{words} ({self.format})")
 
 
 def _buffer(array: Array, place: int, length: int, owner: object) -> Buffer:
@@ -160,17 +101,17 @@ def _need(array: Array, place: int, length: int, owner: object, name: str) -> Bu
     return found
 
 
-def _text_buffers(array: Array, code: int, end: int, owner: object) -> tuple[Buffer, Buffer]:
+def _text_buffers(array: Array, kind: ColumnKind, end: int, owner: object) -> tuple[Buffer, Buffer]:
     """The bytes and the offsets. Arrow does not say how long they are: the last offset does."""
-    item = ctypes.c_int32 if code in (UTF8, BINARY) else c_int64
+    item = ctypes.c_int32 if kind.code in (UTF8, BINARY) else c_int64
     offsets = _need(array, 1, ctypes.sizeof(item) * (end + 1), owner, "offsets")
     last = item.from_address(offsets.address + ctypes.sizeof(item) * end).value
     return _buffer(array, 2, max(0, last), owner), offsets
 
 
-def _column(schema: Schema, array: Array, owner: object, before: int = 0, length: int | None = None) -> Column:
+def _column(field: Field, array: Array, owner: object, before: int = 0, length: int | None = None) -> Column:
     """The column of an array. Of a struct's child, the struct's offset comes before its own, and the length is the struct's."""
-    code = _code_of(schema)
+    kind = field.kind()
     if min(array.offset, array.length) < 0:
         raise ValueError("an Arrow array has a length or an offset below 0")
     if length is not None and before + length > array.length:
@@ -178,55 +119,64 @@ def _column(schema: Schema, array: Array, owner: object, before: int = 0, length
     offset, length = array.offset + before, array.length if length is None else length
     end = offset + length
     # Without rows a buffer may have nothing to read, wherever it is.
-    if code == NULL or not length:
-        return Column._of(code, length)
+    if kind.code == NULL or not length:
+        return Column._of(kind, length)
     validity = _buffer(array, 0, (end + 7) // 8, owner) if array.null_count else EMPTY
-    if code <= BOOL:
-        values = _need(array, 1, (end + 7) // 8 if code == BOOL else WIDTHS[code] * end, owner, "values")
-        return Column._of(code, length, values, validity=validity, offset=offset)
-    texts, offsets = _text_buffers(array, code, end, owner)
-    return Column._of(code, length, texts, offsets, validity, offset)
+    if not kind.has_offsets:
+        values = _need(array, 1, kind.width * end or (end + 7) // 8, owner, "values")
+        return Column._of(kind, length, values, validity=validity, offset=offset)
+    texts, offsets = _text_buffers(array, kind, end, owner)
+    return Column._of(kind, length, texts, offsets, validity, offset)
 
 
 def _with_nulls_of(array: Array, one: Column) -> Column:
     """The column of a child, null where its struct is."""
     bitmap = _buffer(array, 0, (array.offset + array.length + 7) // 8, None) if array.null_count else EMPTY
-    if not bitmap.length or one._code == NULL:
+    if not bitmap.length or one._kind.code == NULL:
         return one
     valid = bits_of(bitmap, array.offset, array.length)
     if one._validity.length:
         valid &= bits_of(one._validity, one._offset, one._length)
     validity = buffer_of(bitmap_of(valid << one._offset, one._offset + one._length))
-    return Column._of(one._code, one._length, one._values, one._offsets, validity, one._offset)
+    return Column._of(one._kind, one._length, one._values, one._offsets, validity, one._offset)
 
 
-Batch = Column | dict[str, Column]
+def _no_rows(field: Field) -> Column:
+    return Column._of(field.kind(), 0)
 
 
-def _batch(schema: Schema, array: Array, owner: object) -> Batch:
-    """The column of an array, or those of a struct by name."""
-    if schema.format != b"+s":
-        return _column(schema, array, owner)
-    if array.n_children != schema.n_children:
-        raise ValueError("an Arrow struct has not as many children as its schema")
-    if min(array.offset, array.length) < 0:
-        raise ValueError("an Arrow array has a length or an offset below 0")
-    columns: dict[str, Column] = {}
-    for place in range(schema.n_children):
-        of, child = schema.children[place][0], array.children[place][0]
-        name = of.name.decode() if of.name else ""
-        if name in columns:
-            raise ValueError(f"two columns of an Arrow struct have the name {name!r}")
-        columns[name] = _with_nulls_of(array, _column(of, child, owner, array.offset, array.length))
-    return columns
+def _child(field: Field, array: Array, place: int, owner: object) -> Column:
+    """A column of a struct, which the owner keeps in memory."""
+    return _with_nulls_of(array, _column(field, array.children[place][0], owner, array.offset, array.length))
 
 
-def _empty(schema: Schema) -> Batch:
-    """No rows of this schema."""
-    if schema.format != b"+s":
-        return Column._of(_code_of(schema), 0)
-    children = [schema.children[place][0] for place in range(schema.n_children)]
-    return {child.name.decode() if child.name else "": Column._of(_code_of(child), 0) for child in children}
+class Layout:
+    """What a schema says: the field of a column, or those of a struct. It stays when the schema is released."""
+
+    def __init__(self, schema: Schema) -> None:
+        self.field = Field.of(schema)
+        self.is_struct = schema.format == b"+s"
+        count = schema.n_children if self.is_struct else 0
+        self.children = [Field.of(schema.children[place][0]) for place in range(count)]
+
+    def batch(self, array: Array, owner: object) -> Batch:
+        """The column of an array, or those of a struct by name."""
+        if not self.is_struct:
+            return _column(self.field, array, owner)
+        if array.n_children != len(self.children):
+            raise ValueError("an Arrow struct has not as many children as its schema")
+        if min(array.offset, array.length) < 0:
+            raise ValueError("an Arrow array has a length or an offset below 0")
+        return self._table(lambda place: _child(self.children[place], array, place, owner), array.length)
+
+    def empty(self) -> Batch:
+        """No rows of this schema."""
+        if not self.is_struct:
+            return _no_rows(self.field)
+        return self._table(lambda place: _no_rows(self.children[place]), 0)
+
+    def _table(self, make: Callable[[int], Column], row_count: int) -> Table:
+        return table_of((field.name for field in self.children), make, row_count)
 
 
 class Reader:
@@ -241,8 +191,8 @@ class Reader:
             self.close()
             raise
 
-    def _take(self, structure: Any, capsule: object, name: bytes) -> Held:
-        held = Held(structure, capsule, name)
+    def _take(self, structure: Any, capsule: object) -> Held:
+        held = Held(structure, capsule)
         self.held.append(held)
         return held
 
@@ -250,10 +200,10 @@ class Reader:
         self.stream: Held | None = None
         if hasattr(values, "__arrow_c_array__"):
             schema, array = values.__arrow_c_array__()
-            self.schema = self._take(Schema(), schema, b"arrow_schema")
-            self.chunk = self._take(Array(), array, b"arrow_array")
+            self.schema = self._take(Schema(), schema)
+            self.chunk = self._take(Array(), array)
             return
-        self.stream = self._take(Stream(), values.__arrow_c_stream__(), b"arrow_array_stream")
+        self.stream = self._take(Stream(), values.__arrow_c_stream__())
         self.schema = Held(Schema())
         self._ask(self.stream.structure.get_schema, self.schema.structure)
         self.held.append(self.schema)
@@ -281,16 +231,16 @@ class Reader:
 
     def batches(self) -> Iterator[Batch]:
         """The batches, at least one. Each lives as its columns do."""
-        schema = self.schema.structure
+        layout = Layout(self.schema.structure)
         count = 0
         for chunk in self._chunks():
-            yield _batch(schema, chunk.structure, chunk)
+            yield layout.batch(chunk.structure, chunk)
             count += 1
             self.held.remove(chunk)
             # So that it is released before the next one comes, if nobody keeps its columns.
             del chunk
         if not count:
-            yield _empty(schema)
+            yield layout.empty()
 
     def close(self) -> None:
         """Releases what is held, the stream last."""
@@ -308,4 +258,6 @@ def reading(values: Any) -> Iterator[Reader]:
 
 
 def is_arrow(values: Any) -> bool:
-    return hasattr(values, "__arrow_c_array__") or hasattr(values, "__arrow_c_stream__")
+    """Whether the values are another's Arrow data."""
+    is_own = isinstance(values, (Column, Table))
+    return not is_own and (hasattr(values, "__arrow_c_array__") or hasattr(values, "__arrow_c_stream__"))

@@ -9,9 +9,9 @@ from ctypes import byref, c_uint64
 from typing import Any, overload
 
 from . import _library
-from ._columns import BOOL, EMPTY, KINDS, Buffer, Column, bitmap_of, bits_of, buffer_of, code_of
+from ._columns import EMPTY, Buffer, Column, bitmap_of, bits_of, buffer_of
 from ._errors import CannotCast, NotANumber, UnknownKind, at
-from ._kinds import WIDTHS, Kind
+from ._kinds import ColumnKind, Kind, kind_of
 from ._library import NONE, Fault, check, check_column, new_buffer
 from ._reading import column
 from ._types import DType
@@ -58,18 +58,18 @@ def _cast_number(number: int, source: Kind, target: Kind) -> int | None:
 
 
 def _cast_column(values: Any, to: str | DType | Kind) -> Column:
-    code = int(to) if isinstance(to, Kind) else code_of(to)
+    kind = ColumnKind(to) if isinstance(to, Kind) else kind_of(to)
     one = column(values)
-    if max(code, one._code) >= BOOL:
-        raise UnknownKind(f"a column of {one.kind} has no cast to {KINDS[code]}: both are to be integers")
-    length = WIDTHS[code] * len(one)
+    if not (kind.is_integer and one._kind.is_integer):
+        raise UnknownKind(f"a column of {one.kind} has no cast to {kind}: both are to be integers")
+    length = kind.width * len(one)
     raw, buffer, fault = one._raw(), new_buffer(length), Fault()
-    status = _library.cast_front(byref(raw), code, buffer, length, byref(fault))
+    status = _library.cast_front(byref(raw), kind.code, buffer, length, byref(fault))
     if status == NONE:
-        raise at(CannotCast(f"{KINDS[code]} does not have the value at index {fault.place}"), fault.place)
+        raise at(CannotCast(f"{kind} does not have the value at index {fault.place}"), fault.place)
     check_column(status, fault)
     validity = EMPTY
     if one._validity.length:
         validity = buffer_of(bitmap_of(bits_of(one._validity, one._offset, len(one)), len(one)))
     made = Buffer(ctypes.addressof(buffer), length, buffer) if length else EMPTY
-    return Column._of(code, len(one), made, validity=validity)
+    return Column._of(kind, len(one), made, validity=validity)

@@ -12,20 +12,15 @@ from itertools import accumulate, pairwise
 from operator import le
 from typing import Any, NamedTuple, overload
 
-from ._errors import BadOffsets, KindsDiffer, NotANumber, NotUtf8, UnknownKind, at
-from ._kinds import INTEGERS, ITEMS, TYPECODES, WIDTHS
+from ._errors import BadOffsets, KindsDiffer, NotANumber, NotAValue, NotUtf8, UnknownKind, at
+from ._export import array_of_column, schema_of_column
+from ._kinds import BINARY, BOOL, F32, F64, I64, ITEMS, LARGE_BINARY, LARGE_UTF8, NULL, TYPECODES, U64, UTF8, WIDTHS, ColumnKind, kind_of
 from ._library import RawColumn, encoded
+from ._numpy import array_of
 from ._types import DType
+from ._values import items_of, logical_kind_of, takes, values_of
 
 __all__ = ["Column"]
-
-# Kinds, by their codes. Strings and bytes have two: with offsets of 32 and of 64 bits.
-KINDS = (*INTEGERS, "bool", "utf8", "utf8", "binary", "binary", "null")
-BOOL, UTF8, LARGE_UTF8, BINARY, LARGE_BINARY, NULL = range(8, 14)
-CODES = {**{kind: code for code, kind in enumerate(INTEGERS)}, "bool": BOOL, "utf8": UTF8, "binary": BINARY, "null": NULL}
-_FLOATS = {"e": "float16", "f": "float32", "d": "float64"}
-WHY_NO_FLOATS = "floats are left out, since NaN and two zeros have no place in the order of values"
-WHY_NO_DECIMALS = "decimals are left out: the library has numbers of at most 64 bits"
 
 
 class Buffer(NamedTuple):
@@ -64,14 +59,6 @@ def _bits(truths: Iterable[bool]) -> int:
     return int("0" + "".join("1" if truth else "0" for truth in truths)[::-1], 2)
 
 
-def code_of(of: str | DType) -> int:
-    """The code of a kind as a person writes it, perhaps with a question mark behind it."""
-    code = CODES.get(str(of).strip().removesuffix("?"))
-    if code is None:
-        raise UnknownKind(f"{of} is no kind of a column: these are {', '.join(CODES)}")
-    return code
-
-
 def _decoded(text: bytes, row: int) -> str:
     try:
         return text.decode()
@@ -82,16 +69,16 @@ def _decoded(text: bytes, row: int) -> str:
 class Column(Sequence[Any]):
     """A column: values of one kind or None, as Arrow lays them out.
 
-    `column` makes one, and some calls answer one. It is a sequence, and a slice of it shares its memory. `buffers` lends the
-    memory to others.
+    `column` makes one, and some calls answer one. It is a sequence, and a slice of it shares its memory. It is Arrow data itself,
+    so pyarrow, polars and others take it uncopied; `buffers` lends the memory to what knows no Arrow. Floats, decimals, dates, times and timestamps are those of Python; of two columns all NaNs are equal.
 
     >>> numbers = column([3, None, 5])
     >>> numbers, numbers[0], list(numbers[1:]), numbers.null_count
     (Column('i64', [3, None, 5]), 3, [None, 5], 1)
     """
 
-    __slots__ = ("_code", "_offset", "_length", "_validity", "_values", "_offsets")
-    _code: int
+    __slots__ = ("_kind", "_offset", "_length", "_validity", "_values", "_offsets")
+    _kind: ColumnKind
     _offset: int
     _length: int
     _validity: Buffer
@@ -103,17 +90,17 @@ class Column(Sequence[Any]):
 
     @classmethod
     def _of(
-        cls, code: int, length: int, values: Buffer = EMPTY, offsets: Buffer = EMPTY, validity: Buffer = EMPTY, offset: int = 0
+        cls, kind: ColumnKind, length: int, values: Buffer = EMPTY, offsets: Buffer = EMPTY, validity: Buffer = EMPTY, offset: int = 0
     ) -> Column:
         made = object.__new__(cls)
-        made._code, made._length, made._offset = code, length, offset
+        made._kind, made._length, made._offset = kind, length, offset
         made._values, made._offsets, made._validity = values, offsets, validity
         return made
 
     def _raw(self) -> RawColumn:
         validity, values, offsets = self._validity, self._values, self._offsets
         return RawColumn(
-            self._code,
+            *self._kind,
             validity.address,
             validity.length,
             values.address,
@@ -126,13 +113,13 @@ class Column(Sequence[Any]):
 
     @property
     def kind(self) -> str:
-        """`i64`, `utf8` and so on."""
-        return KINDS[self._code]
+        """`i64`, `utf8`, `decimal(10,2)` and so on."""
+        return str(self._kind)
 
     @property
     def null_count(self) -> int:
         """How many rows are None."""
-        if self._code == NULL:
+        if self._kind.code == NULL:
             return self._length
         return self._length - bits_of(self._validity, self._offset, self._length).bit_count() if self._validity.length else 0
 
@@ -156,18 +143,45 @@ class Column(Sequence[Any]):
 
         return lent(self._validity), lent(self._offsets), lent(self._values)
 
+    def __arrow_c_schema__(self) -> object:
+        """The column's format, in a capsule of Arrow's C data interface."""
+        return schema_of_column(self)
+
+    def __arrow_c_array__(self, requested_schema: object = None) -> tuple[object, object]:
+        """The column's format and its memory, uncopied, in capsules of Arrow's C data interface: `pyarrow.array` and others take it.
+
+        The format is the column's own, whatever is requested. A zone is UTC, since timestamps with a zone count in it.
+        """
+        return schema_of_column(self), array_of_column(self)
+
+    def __array__(self, dtype: Any = None, copy: bool | None = None) -> Any:
+        """The values as an array of numpy: numbers without nulls uncopied, truths without nulls, and others as objects.
+
+        So `array[mask]` and `array[sort_rows([array])]` take columns as they are.
+        """
+        made = array_of(self)
+        return made.astype(made.dtype if dtype is None else dtype, copy=bool(copy))
+
+    def __reduce__(self) -> tuple[Any, ...]:
+        """A copy or a pickle has the memory of its own rows."""
+        one = joined([self, self[:0]])
+        return _of_bytes, (one._kind, one._length, *(ctypes.string_at(*part[:2]) for part in (one._values, one._offsets, one._validity)))
+
     def __len__(self) -> int:
         return self._length
 
     def _is_valid(self, row: int) -> bool:
-        if self._code == NULL or not self._validity.length:
-            return self._code != NULL
+        if self._kind.code == NULL or not self._validity.length:
+            return self._kind.code != NULL
+        return self._bit(self._validity, row)
+
+    def _bit(self, bitmap: Buffer, row: int) -> bool:
         place = self._offset + row
-        return bool(ctypes.c_uint8.from_address(self._validity.address + place // 8).value >> place % 8 & 1)
+        return bool(ctypes.c_uint8.from_address(bitmap.address + place // 8).value >> place % 8 & 1)
 
     def _ends(self, row: int, count: int) -> list[int]:
         """The offsets of so many rows from this one on, and the end of the last. No rows need no offsets."""
-        item = ctypes.c_uint32 if self._code in (UTF8, BINARY) else ctypes.c_uint64
+        item = ctypes.c_uint32 if self._kind.code in (UTF8, BINARY) else ctypes.c_uint64
         start = self._offsets.address + ctypes.sizeof(item) * (self._offset + row)
         return list((item * (count + 1)).from_address(start)) if self._length else [0]
 
@@ -186,16 +200,27 @@ class Column(Sequence[Any]):
         first = ends[0]
         return ctypes.string_at(self._values.address + first, ends[-1] - first), [end - first for end in ends]
 
-    def _item(self, row: int) -> Any:
+    def _items(self) -> list[Any]:
+        """The items of all rows, as they are stored."""
+        width = self._kind.width
+        start = self._values.address + width * self._offset
+        if self._kind.code in ITEMS:
+            return list((ITEMS[self._kind.code] * self._length).from_address(start))
+        data = ctypes.string_at(start, width * self._length)
+        return [int.from_bytes(data[place : place + width], "little", signed=True) for place in range(0, len(data), width)]
+
+    def _value(self, row: int) -> Any:
         if not self._is_valid(row):
             return None
-        place = self._offset + row
-        if self._code < BOOL:
-            return ITEMS[self._code].from_address(self._values.address + WIDTHS[self._code] * place).value
-        if self._code == BOOL:
-            return bool(ctypes.c_uint8.from_address(self._values.address + place // 8).value >> place % 8 & 1)
+        code = self._kind.code
+        if code < BOOL:
+            return ITEMS[code].from_address(self._values.address + WIDTHS[code] * (self._offset + row)).value
+        if code == BOOL:
+            return self._bit(self._values, row)
+        if code > NULL:
+            return values_of(self._kind, self[row : row + 1]._items(), row)[0]
         text = self._text(row)
-        return _decoded(text, row) if self._code in (UTF8, LARGE_UTF8) else text
+        return _decoded(text, row) if code in (UTF8, LARGE_UTF8) else text
 
     @overload
     def __getitem__(self, place: int) -> Any: ...
@@ -208,74 +233,106 @@ class Column(Sequence[Any]):
             start, stop, step = place.indices(self._length)
             if step != 1:
                 raise ValueError("a slice of a column has no step")
-            return Column._of(self._code, max(0, stop - start), self._values, self._offsets, self._validity, self._offset + start)
+            return Column._of(self._kind, max(0, stop - start), self._values, self._offsets, self._validity, self._offset + start)
         row = place + self._length if place < 0 else place
         if not 0 <= row < self._length:
             raise IndexError(place)
-        return self._item(row)
+        return self._value(row)
 
     def __iter__(self) -> Iterator[Any]:
         return iter(self.to_list())
 
     def to_list(self) -> list[Any]:
-        """The values, with None for a null."""
-        if self._code in (BOOL, NULL) or not self._length:
-            return [self._item(row) for row in range(self._length)]
+        """The values, with None for a null.
+
+        Raises NotAValue at a value that Python does not have, as a time with nanoseconds. `buffers` has each.
+        """
+        if self._kind.code == NULL or not self._length:
+            return [None] * self._length
         found: list[Any]
-        if self._code > BOOL:
+        if self._kind.code == BOOL:
+            found = [self._bit(self._values, row) for row in range(self._length)]
+        elif self._kind.has_offsets:
             data, ends = self._texts()
             found = [data[start:end] for start, end in pairwise(ends)]
-            if self._code in (UTF8, LARGE_UTF8):
-                found = [_decoded(text, row) if self._is_valid(row) else None for row, text in enumerate(found)]
         else:
-            items = ITEMS[self._code] * self._length
-            found = list(items.from_address(self._values.address + WIDTHS[self._code] * self._offset))
+            found = self._items()
         if self.null_count:
             found = [value if self._is_valid(row) else None for row, value in enumerate(found)]
-        return found
+        if self._kind.is_text:
+            return [None if text is None else _decoded(text, row) for row, text in enumerate(found)]
+        return values_of(self._kind, found) if self._kind.is_logical else found
 
     def __eq__(self, other: object) -> bool:
         if not isinstance(other, Column):
             return NotImplemented
-        return self.kind == other.kind and self.to_list() == other.to_list()
+        if self.kind != other.kind or len(self) != len(other):
+            return False
+        both = zip(self.to_list(), other.to_list())
+        return all(one == two or (one != one and two != two) for one, two in both)
 
     __hash__ = None  # type: ignore[assignment]
 
     def __repr__(self) -> str:
-        shown = [repr(value) for value in self] if self._length <= 12 else [*map(repr, self[:10]), "..."]
+        count = self._length if self._length <= 12 else 10
+        shown = [_shown(self, row) for row in range(count)] + ["..."] * (count < self._length)
         return f"Column({self.kind!r}, [{', '.join(shown)}])"
 
 
-def _kind_of(values: Sequence[Any], types: set[type]) -> int:
+def _of_bytes(kind: ColumnKind, length: int, values: bytes, offsets: bytes, validity: bytes) -> Column:
+    return Column._of(kind, length, buffer_of(values), buffer_of(offsets), buffer_of(validity))
+
+
+def _shown(values: Sequence[Any], row: int) -> str:
+    """A value as `repr` has it, and one that Python does not have as the number that stores it."""
+    try:
+        return repr(values[row])
+    except NotAValue as error:
+        return f"<{error.item}>"
+
+
+def _kind_of(values: Sequence[Any], types: set[type]) -> ColumnKind:
     """The kind of a list's values."""
     if not types:
-        return NULL
+        return ColumnKind(NULL)
     if types == {bool}:
-        return BOOL
+        return ColumnKind(BOOL)
     if types == {str}:
-        return LARGE_UTF8
-    if types <= {bytes, bytearray, memoryview}:
-        return LARGE_BINARY
-    if all(hasattr(of, "__index__") for of in types) and bool not in types:
+        return ColumnKind(LARGE_UTF8)
+    if types <= _BYTES:
+        return ColumnKind(LARGE_BINARY)
+    if _are_integers(types):
         greatest = max(value for value in values if value is not None)
-        return CODES["u64"] if greatest >= 2**63 else CODES["i64"]
-    if float in types:
-        raise UnknownKind(f"float: {WHY_NO_FLOATS}")
-    raise UnknownKind(f"a list of {' and '.join(sorted(of.__name__ for of in types))} is no column")
+        return U64 if greatest >= 2**63 else I64
+    kind = logical_kind_of(values, types)
+    if kind is None:
+        names = sorted(of.__name__ for of in types)
+        raise UnknownKind(f"a list of {' and '.join(names)} is no column" + _INSTEAD.get(names[0], ""))
+    return kind
 
 
-def _fits(code: int, types: set[type]) -> bool:
-    if code < BOOL:
-        return all(hasattr(of, "__index__") for of in types) and bool not in types
+_BYTES: set[type] = {bytes, bytearray, memoryview}
+_INSTEAD = {"timedelta": ": durations are not taken, and integers are", "Timestamp": ": give the Series"}
+
+
+def _are_integers(types: set[type]) -> bool:
+    return all(hasattr(of, "__index__") for of in types) and bool not in types
+
+
+def _fits(kind: ColumnKind, types: set[type]) -> bool:
+    if kind.is_integer:
+        return _are_integers(types)
+    if kind.is_logical:
+        return takes(kind, types)
     allowed: dict[int, set[type]] = {BOOL: {bool}, NULL: set(), UTF8: {str}, LARGE_UTF8: {str}}
-    return types <= allowed.get(code, {bytes, bytearray, memoryview})
+    return types <= allowed.get(kind.code, _BYTES)
 
 
-def _integers(code: int, values: Sequence[Any]) -> Buffer:
+def _integers(kind: ColumnKind, values: Sequence[Any]) -> Buffer:
     try:
-        return buffer_of(array(TYPECODES[code], [0 if value is None else value for value in values]))
+        return buffer_of(array(TYPECODES[kind.code], [0 if value is None else value for value in values]))
     except OverflowError:
-        raise NotANumber(f"{KINDS[code]} does not have each number of the list") from None
+        raise NotANumber(f"{kind} does not have each number of the list") from None
 
 
 def of_list(values: Sequence[Any], of: str | DType | None) -> Column:
@@ -283,27 +340,28 @@ def of_list(values: Sequence[Any], of: str | DType | None) -> Column:
     types = set(map(type, values))
     has_nulls = type(None) in types
     types.discard(type(None))
-    code = _kind_of(values, types) if of is None else code_of(of)
-    if not _fits(code, types):
-        raise KindsDiffer(f"{KINDS[code]} has no value of {' or '.join(sorted(kind.__name__ for kind in types))}")
+    kind = _kind_of(values, types) if of is None else kind_of(of)
+    if not _fits(kind, types):
+        raise KindsDiffer(f"{kind} has no value of {' or '.join(sorted(of.__name__ for of in types))}")
     length = len(values)
     validity = EMPTY
-    if has_nulls and code != NULL:
+    if has_nulls and kind.code != NULL:
         validity = buffer_of(bitmap_of(_bits(value is not None for value in values), length))
-    if code < BOOL:
-        return Column._of(code, length, _integers(code, values), validity=validity)
-    if code == BOOL:
-        return Column._of(code, length, buffer_of(bitmap_of(_bits(map(bool, values)), length)), validity=validity)
-    if code == NULL:
-        return Column._of(code, length)
-    is_text = code in (UTF8, LARGE_UTF8)
-    texts = [b"" if value is None else encoded(value) if is_text else bytes(value) for value in values]
-    return of_texts(LARGE_UTF8 if is_text else LARGE_BINARY, texts, validity)
+    if kind.is_integer:
+        return Column._of(kind, length, _integers(kind, values), validity=validity)
+    if kind.is_logical:
+        return Column._of(kind, length, buffer_of(items_of(kind, values)), validity=validity)
+    if kind.code == BOOL:
+        return Column._of(kind, length, buffer_of(bitmap_of(_bits(map(bool, values)), length)), validity=validity)
+    if kind.code == NULL:
+        return Column._of(kind, length)
+    texts = [b"" if value is None else encoded(value) if kind.is_text else bytes(value) for value in values]
+    return of_texts(kind.large, texts, validity)
 
 
-def of_texts(code: int, texts: Sequence[bytes], validity: Buffer = EMPTY) -> Column:
+def of_texts(kind: ColumnKind, texts: Sequence[bytes], validity: Buffer = EMPTY) -> Column:
     offsets = array("q", accumulate(map(len, texts), initial=0))
-    return Column._of(code, len(texts), buffer_of(b"".join(texts)), buffer_of(offsets), validity)
+    return Column._of(kind, len(texts), buffer_of(b"".join(texts)), buffer_of(offsets), validity)
 
 
 class _PyBuffer(ctypes.Structure):
@@ -329,23 +387,33 @@ def _address_of(view: memoryview) -> int:
     return address
 
 
-def of_view(view: memoryview) -> Column:
-    """A column of a buffer's integers, where they lie if they lie one behind another."""
+_INTEGER_LETTERS = ("b", "B", "h", "H", "i", "I", "l", "L", "q", "Q", "n", "N")
+
+
+def _kind_of_items(view: memoryview) -> ColumnKind:
+    """The kind of a buffer's items."""
     order, letter = (view.format[0], view.format[1:]) if view.format[0] in "@=<>!" else ("@", view.format)
-    if letter in _FLOATS:
-        raise UnknownKind(f"{_FLOATS[letter]}: {WHY_NO_FLOATS}")
-    if view.ndim != 1:
-        raise UnknownKind(f"a buffer of {view.ndim} dimensions is no column")
-    if letter == "?":
-        return of_list([bool(byte) for byte in view.tobytes()], "bool")
-    if letter not in ("b", "B", "h", "H", "i", "I", "l", "L", "q", "Q", "n", "N"):
+    if letter in ("e", "g"):
+        raise UnknownKind(f"{'float16' if letter == 'e' else 'a long double'} is not taken: cast it to float{32 if letter == 'e' else 64}")
+    if letter not in (*_INTEGER_LETTERS, "f", "d"):
         raise UnknownKind(f"a buffer of items of the format {view.format!r} is no column")
     if view.itemsize > 1 and order in ((">", "!") if sys.byteorder == "little" else ("<",)):
         raise UnknownKind("the items of the buffer have their bytes in another order")
-    code = {1: 0, 2: 1, 4: 2, 8: 3}[view.itemsize] + (0 if letter.isupper() else 4)
+    if letter in ("f", "d"):
+        return ColumnKind(F32 if letter == "f" else F64)
+    return ColumnKind({1: 0, 2: 1, 4: 2, 8: 3}[view.itemsize] + (0 if letter.isupper() else 4))
+
+
+def of_view(view: memoryview) -> Column:
+    """A column of a buffer's integers or floats, where they lie if they lie one behind another."""
+    if view.ndim != 1:
+        raise UnknownKind(f"a buffer of {view.ndim} dimensions is no column")
+    if view.format.lstrip("@=<>!") == "?":
+        return of_list([bool(byte) for byte in view.tobytes()], "bool")
+    kind = _kind_of_items(view)
     if not view.c_contiguous:
-        return Column._of(code, len(view), buffer_of(view.tobytes()))
-    return Column._of(code, len(view), Buffer(_address_of(view), view.nbytes, view) if view.nbytes else EMPTY)
+        return Column._of(kind, len(view), buffer_of(view.tobytes()))
+    return Column._of(kind, len(view), Buffer(_address_of(view), view.nbytes, view) if view.nbytes else EMPTY)
 
 
 def _joined_texts(columns: Sequence[Column]) -> tuple[Buffer, Buffer]:
@@ -370,30 +438,38 @@ def joined(columns: Sequence[Column]) -> Column:
     """Columns of one kind, one behind another. One alone stays where it is; more are copied."""
     if len(columns) == 1:
         return columns[0]
-    first = columns[0]
+    kind = columns[0]._kind
     length = sum(one._length for one in columns)
     validity = EMPTY
-    if first._code != NULL and any(one._validity.length for one in columns):
+    if kind.code != NULL and any(one._validity.length for one in columns):
         whole = lambda one: bits_of(one._validity, one._offset, one._length) if one._validity.length else (1 << one._length) - 1
         validity = _joined_bits(columns, map(whole, columns))
-    if first._code == NULL:
-        return Column._of(NULL, length)
-    if first._code == BOOL:
+    if kind.code == NULL:
+        return Column._of(kind, length)
+    if kind.code == BOOL:
         values = _joined_bits(columns, (bits_of(one._values, one._offset, one._length) for one in columns))
-        return Column._of(BOOL, length, values, validity=validity)
-    if first._code < BOOL:
-        width = WIDTHS[first._code]
-        parts = [ctypes.string_at(one._values.address + width * one._offset, width * one._length) for one in columns]
-        return Column._of(first._code, length, buffer_of(b"".join(parts)), validity=validity)
+        return Column._of(kind, length, values, validity=validity)
+    if kind.width:
+        parts = [ctypes.string_at(one._values.address + kind.width * one._offset, kind.width * one._length) for one in columns]
+        return Column._of(kind, length, buffer_of(b"".join(parts)), validity=validity)
     values, offsets = _joined_texts(columns)
-    return Column._of(LARGE_UTF8 if first._code in (UTF8, LARGE_UTF8) else LARGE_BINARY, length, values, offsets, validity)
+    return Column._of(kind.large, length, values, offsets, validity)
 
 
-def nulls(code: int, length: int) -> Column:
+def nulls(kind: ColumnKind, length: int) -> Column:
     """A column of nulls alone, of any kind."""
-    if code == NULL:
-        return Column._of(code, length)
+    if kind.code == NULL:
+        return Column._of(kind, length)
     validity = buffer_of(bytes((length + 7) // 8))
-    if code <= BOOL:
-        return Column._of(code, length, buffer_of(bytes(8 * length)), validity=validity)
-    return Column._of(code, length, EMPTY, buffer_of(bytes(8 * (length + 1))), validity)
+    if not kind.has_offsets:
+        return Column._of(kind, length, buffer_of(bytes(max(8, kind.width) * length)), validity=validity)
+    return Column._of(kind, length, EMPTY, buffer_of(bytes(8 * (length + 1))), validity)
+
+
+def fitted(one: Column, of: str | DType | None) -> Column:
+    """The column, if it is of the kind that is asked for. Nulls alone are of any."""
+    if of is None or one._kind.general == kind_of(of).general:
+        return one
+    if one._kind.code == NULL:
+        return nulls(kind_of(of), len(one))
+    raise KindsDiffer(f"the column is of {one.kind}, not of {of}")

@@ -24,6 +24,7 @@ __all__ = [
     "NoField",
     "NoOrder",
     "NotANumber",
+    "NotAValue",
     "NotUtf8",
     "OutOfMemory",
     "Refused",
@@ -59,6 +60,14 @@ class NotUtf8(DoqallinError, ValueError):
 
 class NotANumber(DoqallinError, ValueError):
     """An integer type does not have the number that is said to be of it."""
+
+
+class NotAValue(DoqallinError, ValueError):
+    """A logical type does not have a value that is said to be of it: a time after the end of the day, too many digits. Or Python
+    does not have one of a column: a date before the year 1, a time with nanoseconds. `place` is the row, and `item` what stores
+    the value, or is to be stored."""
+
+    item: Any = None
 
 
 class BadOffsets(DoqallinError, ValueError):
@@ -125,7 +134,7 @@ class NoOrder(DoqallinError, TypeError):
 
 
 class HasVariant(DoqallinError, ValueError):
-    """A variant stands in the type: it has no key."""
+    """The type contains a variant, so it has no key."""
 
 
 class BadKey(DoqallinError, ValueError):
@@ -140,7 +149,7 @@ class BadKey(DoqallinError, ValueError):
 
 
 class TooDeep(DoqallinError, ValueError):
-    """More than 32 brackets nest in a type or a value. `call` takes a line that nests deeper, if it is told how deep."""
+    """More than 32 brackets nest in a type or a value. `call` takes a line that nests deeper, if its caller says how deep."""
 
 
 class Refused(DoqallinError):
@@ -148,7 +157,7 @@ class Refused(DoqallinError):
 
 
 class UnknownKind(DoqallinError, TypeError):
-    """Columns are not of this kind, or the call does not take it. The message names it, and says why of floats and decimals."""
+    """Columns are not of this kind, or the call does not take it. The message names it, and says what takes its place."""
 
 
 class KindsDiffer(DoqallinError, TypeError):
@@ -172,7 +181,7 @@ class BadFilter(DoqallinError, ValueError):
 
 
 class NoColumn(DoqallinError, LookupError):
-    """A table has no column of this name."""
+    """A table has no column of this name, or two."""
 
 
 class WrongLength(DoqallinError, ValueError):

@@ -8,18 +8,20 @@ import ctypes
 import enum
 import re
 from array import array
-from collections.abc import Iterable, Mapping, Sequence, Sized
+from collections.abc import Iterable, Mapping, Sequence
 from contextlib import closing
 from ctypes import byref, c_size_t
 from itertools import accumulate, compress
 from typing import Any, overload
 
 from . import _library
-from ._columns import BOOL, KINDS, Column, buffer_of, code_of, joined
-from ._errors import BadFilter, NoColumn, at
+from ._columns import Column, buffer_of, fitted, joined
+from ._errors import BadFilter, at
+from ._kinds import BOOL, ColumnKind, kind_of
 from ._library import BAD_BYTES, BAD_FILTER, BUFFER_TOO_SMALL, Fault, Mistake, NamedKind, check_column, encoded, new_buffer, size
-from ._reading import column, each_batch, fitted, raw_columns
+from ._reading import each_batch, named, raw_columns, table_of_parts
 from ._statistics import Statistics
+from ._tables import Table
 from ._types import DType
 
 __all__ = ["Filter", "Outcomes", "Zones"]
@@ -73,7 +75,7 @@ class Zones(Sequence[Mapping[str, Statistics]]):
 
     def __init__(self, zones: Iterable[Mapping[str, Statistics]]) -> None:
         self._zones = list(zones)
-        self._packed: dict[tuple[str, ...], tuple[bytes, array[int]]] = {}
+        self._packed: dict[tuple[tuple[str, ColumnKind], ...], tuple[bytes, array[int]]] = {}
 
     @overload
     def __getitem__(self, place: int) -> Mapping[str, Statistics]: ...
@@ -87,12 +89,12 @@ class Zones(Sequence[Mapping[str, Statistics]]):
     def __len__(self) -> int:
         return len(self._zones)
 
-    def _pieces(self, names: tuple[str, ...]) -> tuple[bytes, array[int]]:
+    def _pieces(self, columns: tuple[tuple[str, ColumnKind], ...]) -> tuple[bytes, array[int]]:
         """The bytes of the statistics of these columns, zone by zone, and where each piece begins."""
-        if names not in self._packed:
-            pieces = [zone[name]._bytes if name in zone else b"" for zone in self._zones for name in names]
-            self._packed[names] = b"".join(pieces), array("Q", accumulate(map(len, pieces), initial=0))
-        return self._packed[names]
+        if columns not in self._packed:
+            pieces = [zone[name]._as(kind) if name in zone else b"" for zone in self._zones for name, kind in columns]
+            self._packed[columns] = b"".join(pieces), array("Q", accumulate(map(len, pieces), initial=0))
+        return self._packed[columns]
 
 
 def _places(mask: bytes) -> list[int]:
@@ -102,18 +104,27 @@ def _places(mask: bytes) -> list[int]:
     return [found.start() for found in re.finditer(b"\x01", mask)]
 
 
-def _row_count(columns: Iterable[Any]) -> int:
-    """How many rows columns have, by the first of them."""
-    for one in columns:
-        return len(one) if isinstance(one, Sized) else len(column(one))
-    return 0
+# A string, a name in quotes, or a bare word.
+_WORDS = re.compile(r"""'(?:[^']|'')*'|"((?:[^"]|"")*)"|([A-Za-z_][A-Za-z0-9_]*)""")
+
+
+def _named_in(text: str, names: Iterable[str]) -> tuple[str, ...]:
+    """Those of the names that a filter may name: that are words of its text. With a `$` a column may be named by its number."""
+    words: set[str] = set()
+    for found in _WORDS.finditer(text):
+        quoted, bare = found.groups()
+        words.update([bare] if bare is not None else [] if quoted is None else [quoted.replace('""', '"')])
+    return tuple(name for name in names if name in words or "$" in text)
 
 
 class Filter:
     """A filter of rows, as SQL's WHERE has it: it is true, false or unknown of a row, and a row matches only if it is true.
 
     `text` is in the words of docs/FILTERS.md: comparisons, `is null`, `in`, `between`, `like 'abc%'`, `starts_with`, `and`,
-    `or`, `not`. `schema` has the kind of each column that it may name: integers, `bool`, `utf8`, `binary`.
+    `or`, `not`. `schema` has the kind of each column that it may name: integers, `bool`, `utf8`, `binary`, `f32`, `f64`,
+    `decimal(10,2)`, `date`, `time(us)`, `timestamp(us)` and `timestamp(us,UTC)`, whose unit is `s`, `ms`, `us` or `ns`.
+    `literal` writes a value of Python as a text has it. Among floats NaN is above all and equal to itself, as in
+    PostgreSQL, and not as in Python.
 
     Raises BadFilter with the place of a mistake. More than `depth` connectives and parentheses that nest are one: each level
     takes stack.
@@ -124,27 +135,26 @@ class Filter:
     (False, <Outcomes.MAY_BE_FALSE: 1>)
     >>> list(wanted.mask({"city": ["Oslo", "Oslo", None], "fare": [12, 3, 12]}))
     [True, False, False]
+    >>> from datetime import date
+    >>> list(Filter("day < '2026-03-01'", {"day": "date?"}).mask({"day": [date(2026, 2, 28), None]}))
+    [True, False]
     """
 
-    __slots__ = ("text", "schema", "depth", "_names", "_codes", "_prepared")
+    __slots__ = ("text", "schema", "depth", "_names", "_kinds", "_prepared")
 
     def __init__(self, text: str, schema: Mapping[str, str | DType], depth: int = 32) -> None:
         self.text, self.depth = text, depth
         self.schema = dict(schema)
-        self._names = tuple(self.schema)
-        self._codes = tuple(code_of(of) for of in self.schema.values())
-        self._prepared: dict[tuple[int, ...], bytes] = {}
-        self._bytes(self._codes)
+        kinds = {name: kind_of(of) for name, of in self.schema.items()}
+        # The columns that the text may name. No other is looked at.
+        self._names = _named_in(text, kinds)
+        self._kinds = tuple(kinds[name] for name in self._names)
+        self._prepared = self._prepare(self._kinds)
 
-    def _bytes(self, codes: tuple[int, ...]) -> bytes:
+    def _prepare(self, each: tuple[ColumnKind, ...]) -> bytes:
         """The filter, prepared for columns of these kinds."""
-        if codes not in self._prepared:
-            self._prepared[codes] = self._prepare(codes)
-        return self._prepared[codes]
-
-    def _prepare(self, codes: tuple[int, ...]) -> bytes:
         text, names = encoded(self.text), [encoded(name) for name in self._names]
-        kinds = (NamedKind * max(1, len(names)))(*[NamedKind(name, len(name), code) for name, code in zip(names, codes)])
+        kinds = (NamedKind * max(1, len(names)))(*[NamedKind(name, len(name), *kind) for name, kind in zip(names, each)])
         count, mistake, deep = c_size_t(256 + 4 * len(text)), Mistake(), size(self.depth)
         status = BUFFER_TOO_SMALL
         while status == BUFFER_TOO_SMALL:
@@ -161,8 +171,8 @@ class Filter:
 
     def _of_zones(self, zones: Zones) -> bytes:
         """A byte for each zone."""
-        prepared = self._bytes(self._codes)
-        data, offsets = zones._pieces(self._names)
+        prepared = self._prepared
+        data, offsets = zones._pieces(tuple(zip(self._names, self._kinds)))
         outcomes, fault = new_buffer(len(zones)), Fault()
         status = _library.filter_outcomes(
             prepared, len(prepared), data, len(data), buffer_of(offsets).address, len(offsets), size(self.depth), outcomes, len(zones), byref(fault)
@@ -197,47 +207,46 @@ class Filter:
         return [_OUTCOMES[outcomes] for outcomes in self._of_zones(asked)]
 
     def mask(self, table: Any) -> Column:
-        """A column of bools: whether each row matches. It takes an Arrow table or record batch, or a dict of columns by name.
+        """A column of bools: whether each row matches. It takes an Arrow table or record batch, a DataFrame, or a dict of columns.
 
-        There is a bit for each row of the table, also if the schema has no columns. Raises NoColumn if a column of the schema is
-        not there, and KindsDiffer if one is of another kind.
+        There is a bit for each row of the table, also if the schema has no columns. Columns that the text does not name are not
+        looked at, whatever they hold. Raises NoColumn if one that it names is not there, KindsDiffer if one is of another kind
+        than in the schema, and NotAValue with the first row whose number is of no value of the kind.
         """
         if isinstance(table, Mapping):
-            return self._of_batch({name: column(table[name], of) for name, of in self.schema.items() if name in table}, table.values())
+            return self._of_batch(table_of_parts(table, self.schema.get))
         masks = []
         with closing(each_batch(table)) as each:
             for batch in each:
-                if isinstance(batch, dict):
-                    masks.append(self._of_batch(batch, batch.values()))
-                else:
-                    masks.append(self._of_batch({name: batch for name in self._names[:1]}, [batch]))
+                masks.append(self._of_batch(self._alone(batch) if isinstance(batch, Column) else batch))
                 del batch
         return joined(masks)
 
-    def _of_batch(self, batch: Mapping[str, Column], all_columns: Iterable[Any]) -> Column:
-        """The mask of a batch, of whose columns these are all."""
-        for name in self._names:
-            if name not in batch:
-                raise NoColumn(f"there is no column {name!r}")
-        each = [fitted(batch[name], of) for name, of in self.schema.items()]
-        prepared, raws, fault = self._bytes(tuple(one._code for one in each)), raw_columns(each), Fault()
-        rows = len(each[0]) if each else _row_count(all_columns)
+    def _alone(self, one: Column) -> Table:
+        """A column as a table of the first column of the schema."""
+        return Table({name: lambda: one for name in list(self.schema)[:1]}, len(one))
+
+    def _of_batch(self, batch: Table) -> Column:
+        """The mask of a batch."""
+        each = [fitted(named(batch, name), self.schema[name]) for name in self._names]
+        raws, fault = raw_columns(each), Fault()
+        rows = len(each[0]) if each else batch.row_count
         length = (rows + 7) // 8
-        buffer = new_buffer(length)
+        buffer, prepared = new_buffer(length), self._prepared
         status = _library.filter_mask(prepared, len(prepared), raws, len(each), rows, size(self.depth), buffer, length, byref(fault))
         check_column(status, fault, f"column {self._names[fault.column]!r}: " if fault.column < len(self._names) else "")
-        return Column._of(BOOL, rows, buffer_of(bytes(buffer)))
+        return Column._of(ColumnKind(BOOL), rows, buffer_of(bytes(buffer)))
 
     def __eq__(self, other: object) -> bool:
         if not isinstance(other, Filter):
             return NotImplemented
-        return (self.text, self._names, self._codes) == (other.text, other._names, other._codes)
+        return (self.text, self._names, self._kinds) == (other.text, other._names, other._kinds)
 
     def __hash__(self) -> int:
-        return hash((self.text, self._names, self._codes))
+        return hash((self.text, self._names, self._kinds))
 
     def __reduce__(self) -> tuple[Any, ...]:
-        return Filter, (self.text, {name: KINDS[code] for name, code in zip(self._names, self._codes)}, self.depth)
+        return Filter, (self.text, {name: str(of) for name, of in self.schema.items()}, self.depth)
 
     def __repr__(self) -> str:
         return f"Filter({self.text!r}, { {name: str(of) for name, of in self.schema.items()} })"

@@ -11,11 +11,12 @@ from ctypes import byref, c_size_t
 from typing import Any
 
 from . import _library
+from ._arrays import is_frame
 from ._arrow import is_arrow
-from ._columns import BINARY, BOOL, CODES, EMPTY, LARGE_BINARY, LARGE_UTF8, NULL, UTF8, Buffer, Column, buffer_of, code_of
+from ._columns import EMPTY, Buffer, Column, buffer_of
 from ._errors import KindsDiffer, WrongLength
-from ._kinds import WIDTHS
-from ._library import BUFFER_TOO_SMALL, ColumnBuffers, Fault, check_column, new_buffer, new_offsets
+from ._kinds import BINARY, BOOL, LARGE_BINARY, NULL, ColumnKind, kind_of
+from ._library import BUFFER_TOO_SMALL, ColumnBuffers, Fault, RawKind, check_column, new_buffer, new_offsets, raw_kind
 from ._reading import column, columns, raw_columns
 from ._types import DType
 
@@ -36,9 +37,9 @@ def _options(count: int, descending: bool | Sequence[bool], nulls_first: bool | 
 
 def _width(one: Column) -> int:
     """About how many bytes the keys of a column have. Too few cost a second call."""
-    if one._code < BOOL:
-        return (1 + WIDTHS[one._code]) * len(one)
-    if one._code in (BOOL, NULL) or not len(one):
+    if one._kind.width:
+        return (2 + 2 * one._kind.width if one._kind.width == 16 else 1 + one._kind.width) * len(one)
+    if not one._kind.has_offsets or not len(one):
         return len(one)
     first, last = one._ends(0, 1)[0], one._ends(len(one), 0)[0]
     return 2 * len(one) + min(max(0, last - first), one._values.length)
@@ -49,14 +50,14 @@ def row_keys(
 ) -> Column:
     """A column of bytes: the key of each row of several columns. Keys sort by their bytes as the rows do, column by column.
 
-    It takes a list of columns, an Arrow table or record batch, or a dict. The options are for all columns, or one for each. An
+    It takes a list of columns, an Arrow table or record batch, a DataFrame, or a dict. The options are for all columns, or one for each. An
     index of a database over the keys needs no types.
 
     >>> keys = row_keys([["b", "a", "a"], [1, 2, None]], descending=[False, True], nulls_first=False)
     >>> sorted(range(3), key=keys.__getitem__)
     [1, 2, 0]
     """
-    is_table = isinstance(table, Mapping) or is_arrow(table)
+    is_table = isinstance(table, Mapping) or is_arrow(table) or is_frame(table)
     each = list(columns(table).values()) if is_table else [column(part) for part in table]
     options = _options(len(each), descending, nulls_first)
     raws, fault, rows = raw_columns(each), Fault(), len(each[0]) if each else 0
@@ -68,16 +69,16 @@ def row_keys(
         status = _library.row_keys(raws, len(each), options, len(options), offsets, rows + 1, buffer, length, byref(count), byref(fault))
     check_column(status, fault, f"column {fault.column}: ")
     keys = Buffer(ctypes.addressof(buffer), count.value, buffer) if count.value else EMPTY
-    return Column._of(LARGE_BINARY, rows, keys, Buffer(ctypes.addressof(offsets), 8 * (rows + 1), offsets))
+    return Column._of(ColumnKind(LARGE_BINARY), rows, keys, Buffer(ctypes.addressof(offsets), 8 * (rows + 1), offsets))
 
 
 def _offsets_of(keys: Column) -> Buffer:
     """Offsets of 64 bits, the first that of the first row."""
     if not len(keys):
         return buffer_of(array("Q", [0]))
-    item = ctypes.c_uint32 if keys._code == BINARY else ctypes.c_uint64
+    item = ctypes.c_uint32 if keys._kind.code == BINARY else ctypes.c_uint64
     at = keys._offsets.address + ctypes.sizeof(item) * keys._offset
-    if keys._code == LARGE_BINARY and at % 8 == 0:
+    if keys._kind.code == LARGE_BINARY and at % 8 == 0:
         return Buffer(at, len(keys) + 1, keys._offsets.owner)
     return buffer_of(array("Q", list((item * (len(keys) + 1)).from_address(at))))
 
@@ -87,22 +88,26 @@ def from_row_keys(
 ) -> list[Column]:
     """The columns of the rows whose keys these are, by the options that the keys were made with.
 
-    Raises BadBytes with the first byte that no key of the kinds has there. Keys from anywhere are safe to read.
+    Raises BadBytes with the first byte that no key of the kinds has there, and NotAValue with the first key whose number is of no
+    value of its kind. Keys from anywhere are safe to read. A float is keyed as the integer that stores it: bytes do not say which
+    of the two they are of, and the kind does. So -0.0 comes back as 0.0, and each NaN as one NaN.
 
     >>> from_row_keys(row_keys([["b", None], [1, 2]]), ["utf8?", "i64"])
     [Column('utf8', ['b', None]), Column('i64', [1, 2])]
+    >>> from_row_keys(row_keys([[0.5, -0.0]]), ["f64"])
+    [Column('f64', [0.5, 0.0])]
     """
     one = column(keys, "binary")
     if one.null_count:
         raise KindsDiffer("a null is no key")
-    codes = bytes(code_of(of) for of in kinds)
-    options = _options(len(codes), descending, nulls_first)
+    each = [kind_of(of).large for of in kinds]
+    options = _options(len(each), descending, nulls_first)
     places, rows, fault = _offsets_of(one), len(one), Fault()
-    made = [_Made(code, rows, one._values.length) for code in codes]
-    raws = (ColumnBuffers * len(made))(*(buffers.raw() for buffers in made))
-    status = _library.columns_of_row_keys(
-        codes,
-        len(codes),
+    made = [_Made(kind, rows, one._values.length) for kind in each]
+    raws = (ColumnBuffers * max(1, len(made)))(*(buffers.raw() for buffers in made))
+    status = _library.columns_of_typed_keys(
+        (RawKind * max(1, len(each)))(*map(raw_kind, each)),
+        len(each),
         options,
         len(options),
         places.address,
@@ -120,12 +125,12 @@ def from_row_keys(
 class _Made:
     """Buffers for a column of so many rows, whose strings have at most so many bytes together."""
 
-    def __init__(self, code: int, rows: int, most: int) -> None:
-        self.code, self.rows, self.is_text = code, rows, code in (UTF8, CODES["binary"])
+    def __init__(self, kind: ColumnKind, rows: int, most: int) -> None:
+        self.kind, self.rows = kind, rows
         self.bitmap = (rows + 7) // 8
-        size = most if self.is_text else self.bitmap if code == BOOL else WIDTHS[code] * rows if code < BOOL else 0
+        size = most if kind.has_offsets else self.bitmap if kind.code == BOOL else kind.width * rows
         self.validity, self.values = new_buffer(self.bitmap), new_buffer(size)
-        self.offsets = new_offsets(rows + 1 if self.is_text else 0)
+        self.offsets = new_offsets(rows + 1 if kind.has_offsets else 0)
 
     def raw(self) -> ColumnBuffers:
         buffers: list[ctypes.Array[Any]] = [self.validity, self.values, self.offsets]
@@ -133,10 +138,9 @@ class _Made:
         return ColumnBuffers(*(part for pair in each for part in pair), 0)
 
     def column(self, count: int) -> Column:
-        if self.code == NULL:
-            return Column._of(NULL, self.rows)
+        if self.kind.code == NULL:
+            return Column._of(self.kind, self.rows)
         nulls = Buffer(ctypes.addressof(self.validity), self.bitmap, self.validity) if self.bitmap else EMPTY
         made = Buffer(ctypes.addressof(self.values), count, self.values) if count else EMPTY
-        large = LARGE_UTF8 if self.code == UTF8 else LARGE_BINARY
-        ends = Buffer(ctypes.addressof(self.offsets), 8 * (self.rows + 1), self.offsets) if self.is_text else EMPTY
-        return Column._of(large if self.is_text else self.code, self.rows, made, ends, nulls)
+        ends = Buffer(ctypes.addressof(self.offsets), 8 * (self.rows + 1), self.offsets) if self.kind.has_offsets else EMPTY
+        return Column._of(self.kind, self.rows, made, ends, nulls)

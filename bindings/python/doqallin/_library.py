@@ -23,6 +23,7 @@ from ._errors import (
     LibraryMissing,
     NegativeLength,
     NotANumber,
+    NotAValue,
     NotUtf8,
     OutOfMemory,
     TooManyRows,
@@ -31,9 +32,11 @@ from ._errors import (
     WrongLength,
     at,
 )
+from ._kinds import ColumnKind
 
 GIVEN, NONE, NO_MEMORY, BUFFER_TOO_SMALL, NOT_UTF8, NOT_A_NUMBER, BAD_OFFSETS = range(7)
 UNKNOWN_KIND, TOO_MANY_ROWS, TOO_SHORT, BAD_BYTES, BAD_FILTER, WRONG_LENGTH = range(7, 13)
+(NOT_A_VALUE,) = range(14, 15)
 MAX_SIZE: int = 2 ** (8 * ctypes.sizeof(c_size_t)) - 1
 
 _ERRORS: dict[int, tuple[type[DoqallinError], str]] = {
@@ -48,9 +51,17 @@ class BoundLengths(ctypes.Structure):
     _fields_ = [("lower", c_size_t), ("upper", c_size_t), ("has_upper", c_bool)]
 
 
+class RawKind(ctypes.Structure):
+    """A kind by its code, with the precision and the scale of decimals."""
+
+    _fields_ = [("code", c_uint8), ("precision", c_uint8), ("scale", c_uint8)]
+
+
 class RawColumn(ctypes.Structure):
     _fields_ = [
         ("kind", c_uint8),
+        ("precision", c_uint8),
+        ("scale", c_uint8),
         ("validity", c_void_p),
         ("validity_length", c_size_t),
         ("values", c_void_p),
@@ -96,7 +107,7 @@ class Parts(ctypes.Structure):
 
 
 class NamedKind(ctypes.Structure):
-    _fields_ = [("name", c_char_p), ("name_length", c_size_t), ("kind", c_uint8)]
+    _fields_ = [("name", c_char_p), ("name_length", c_size_t), ("kind", c_uint8), ("precision", c_uint8), ("scale", c_uint8)]
 
 
 class Mistake(ctypes.Structure):
@@ -153,14 +164,14 @@ column_text = _declare("column_bounds_text", c_uint32, *_COLUMN)
 _OUT = c_void_p
 _SPACE = (c_void_p, c_size_t)
 column_statistics = _declare("column_statistics", c_uint32, _OUT, c_size_t, *_SPACE, _OUT, _OUT)
-merge_statistics = _declare("merge_statistics", c_uint32, c_uint8, *_BYTES, *_BYTES, *_SPACE, _OUT, _OUT)
-read_statistics = _declare("read_statistics", c_uint32, c_uint8, *_BYTES, *_SPACE, *_SPACE, _OUT, _OUT)
+merge_typed = _declare("merge_typed", c_uint32, _OUT, *_BYTES, *_BYTES, *_SPACE, _OUT, _OUT)
+read_typed = _declare("read_typed", c_uint32, _OUT, *_BYTES, *_SPACE, *_SPACE, _OUT, _OUT)
 cast_front = _declare("cast_front", c_uint32, _OUT, c_uint8, *_SPACE, _OUT)
 prepare_filter = _declare("prepare_filter", c_uint32, *_BYTES, *_SPACE, c_size_t, *_SPACE, _OUT, _OUT)
 filter_outcomes = _declare("filter_outcomes", c_uint32, *_BYTES, *_BYTES, *_SPACE, c_size_t, *_SPACE, _OUT)
 filter_mask = _declare("filter_mask", c_uint32, *_BYTES, *_SPACE, c_size_t, c_size_t, *_SPACE, _OUT)
 row_keys = _declare("row_keys", c_uint32, *_SPACE, *_BYTES, *_SPACE, *_SPACE, _OUT, _OUT)
-columns_of_row_keys = _declare("columns_of_row_keys", c_uint32, *_BYTES, *_BYTES, *_SPACE, *_SPACE, *_SPACE, _OUT)
+columns_of_typed_keys = _declare("columns_of_typed_keys", c_uint32, *_SPACE, *_BYTES, *_SPACE, *_SPACE, *_SPACE, _OUT)
 
 
 # A buffer of this size holds most answers.
@@ -189,6 +200,10 @@ def check(status: int) -> None:
 BUFFERS = ("bits of validity", "values", "offsets")
 
 
+def raw_kind(kind: ColumnKind) -> RawKind:
+    return RawKind(*kind)
+
+
 def check_column(status: int, fault: Fault, of: str = "") -> None:
     """Raises what the status of a call over columns says. `of` names the column, if there are more."""
     place = fault.place
@@ -200,6 +215,7 @@ def check_column(status: int, fault: Fault, of: str = "") -> None:
         BAD_BYTES: (BadBytes, f"byte {place} is not of the encoding"),
         WRONG_LENGTH: (WrongLength, "there are not as many as there are to be"),
         UNKNOWN_KIND: (UnknownKind, "the call does not take this kind of column"),
+        NOT_A_VALUE: (NotAValue, f"the number of row {place} is of no value of the kind"),
     }
     if status in errors:
         error, words = errors[status]

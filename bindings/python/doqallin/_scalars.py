@@ -89,7 +89,7 @@ def _map_text(entries: Any, of: DType) -> str:
 
 
 def value_text(value: Any, of: DType) -> str:
-    """The value as it stands behind a type."""
+    """The value as a line has it behind a type."""
     while of.kind == "ext":
         of = of.children[0]
     if isinstance(value, Scalar):
@@ -278,7 +278,7 @@ class Scalar:
         return Scalar._of(_ask(f"cast {self._text} {_written(to)}"))
 
     def key(self, *, descending: bool = False, nulls_first: bool = True) -> bytes:
-        """Bytes that sort as the scalars of the type do. Raises HasVariant if a variant stands in the type.
+        """Bytes that sort as the scalars of the type do. Raises HasVariant if the type contains a variant.
 
         >>> scalar(-256, "i16").key().hex()
         '0afeff'
@@ -300,7 +300,7 @@ class Scalar:
     def _order(self, other: Scalar) -> str:
         order = _ask(f"order {self._text} {other._text}")
         if order == "none":
-            raise NoOrder(f"{self.dtype} and {other.dtype}, or what stands in them, have no order")
+            raise NoOrder(f"{self.dtype} and {other.dtype}, or their parts, have no order")
         return order
 
     def __lt__(self, other: Scalar) -> bool:

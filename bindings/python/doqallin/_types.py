@@ -236,7 +236,7 @@ def dtype(text: str | DType) -> DType:
 
     Kinds are `null`, `bool`, `u8` to `u64`, `i8` to `i64`, `utf8`, `binary`, `variant`, and those with parts: `list(i32)`,
     `fsl(i32, 2)`, `map(utf8, i64?)`, `{a: i32, b: utf8}`, `union(0 a: i32, 7 b: utf8)` and `ext(day, 01, i32)`. Raises BadText
-    if the text is none. Whether there is such a type, the library tells when a scalar of it is made.
+    if the text is none. Whether there is such a type, the library says when a scalar of it is made.
 
     >>> dtype("fsl( i64?,3 )")
     dtype('fsl(i64?, 3)')

@@ -27,6 +27,7 @@ impl Random {
 struct Rows {
     wide: Vec<i64>,
     narrow: Vec<i32>,
+    floats: Vec<f64>,
     /// One in eight is null.
     validity: Vec<u8>,
     text: Vec<u8>,
@@ -51,6 +52,7 @@ fn rows() -> Rows {
     }
     Rows {
         narrow: wide.iter().map(|number| *number as i32).collect(),
+        floats: wide.iter().map(|number| *number as f64 / 64.0).collect(),
         validity: (0..ROWS / 8).map(|_| !(1 << (random.next() % 8))).collect(),
         wide,
         text,
@@ -130,6 +132,38 @@ fn plain_extremes<T: Copy + Ord>(values: &[T], validity: &[u8]) -> (u64, T, T) {
     (nulls, least, greatest)
 }
 
+/// The integer that sorts as a float does: its bits without the sign, negated if the sign is set. All NaNs are one.
+fn stored(number: f64) -> i64 {
+    let size = (number.to_bits() & i64::MAX as u64) as i64;
+    let size = size.min(f64::INFINITY.to_bits() as i64 + 1);
+    if number.is_sign_negative() && !number.is_nan() {
+        -size
+    } else {
+        size
+    }
+}
+
+/// The same of floats. The bounds are given by what stores them.
+fn plain_float_extremes(values: &[f64], validity: &[u8]) -> (u64, i64, i64) {
+    let (mut least, mut greatest, mut nulls) = (i64::MAX, i64::MIN, 0);
+    if validity.is_empty() {
+        for value in values {
+            least = least.min(stored(*value));
+            greatest = greatest.max(stored(*value));
+        }
+        return (0, least, greatest);
+    }
+    for (row, value) in values.iter().enumerate() {
+        if is_valid(validity, row) {
+            least = least.min(stored(*value));
+            greatest = greatest.max(stored(*value));
+        } else {
+            nulls += 1;
+        }
+    }
+    (nulls, least, greatest)
+}
+
 /// The same of strings, in one pass that keeps the slices of both, cut to 16 bytes. The strings are letters.
 fn plain_text_extremes(text: &[u8], offsets: &[i32], validity: &[u8]) -> (u64, String, String) {
     let value = |row: usize| &text[offsets[row] as usize..offsets[row + 1] as usize];
@@ -157,11 +191,13 @@ fn plain_text_extremes(text: &[u8], offsets: &[i32], validity: &[u8]) -> (u64, S
 }
 
 /// What is measured, and the most that its ratio to plain Rust is to be.
-const AIMS: [(&str, f64); 10] = [
+const AIMS: [(&str, f64); 12] = [
     ("statistics of i64", 0.6),
     ("statistics of i64 with nulls", 0.9),
     ("statistics of i32", 0.6),
     ("statistics of i32 with nulls", 0.9),
+    ("statistics of f64", 1.0),
+    ("statistics of f64 with nulls", 1.0),
     ("statistics of strings", 1.0),
     ("statistics of strings with nulls", 1.0),
     ("statistics of strings that begin alike", 1.0),
@@ -169,6 +205,9 @@ const AIMS: [(&str, f64); 10] = [
     ("cast with nulls", 1.0),
     ("keys", 1.2),
 ];
+
+/// The most time that statistics of f64 are to take, by that of i64.
+const AIM_OF_FLOATS: f64 = 1.3;
 
 /// The same of a sort by keys.
 const AIM_OF_SORTING: f64 = 0.33;
@@ -180,6 +219,8 @@ fn column<'a>(name: &str, of: &'a Rows) -> Column<'a> {
         Column::utf8(&of.text, &of.offsets)
     } else if name.contains("i32") {
         Column::integers(&of.narrow)
+    } else if name.contains("f64") {
+        Column::floats(&of.floats)
     } else {
         Column::integers(&of.wide)
     };
@@ -193,6 +234,7 @@ fn column<'a>(name: &str, of: &'a Rows) -> Column<'a> {
 fn shown(bound: Option<&Item>) -> String {
     match bound {
         Some(Item::Integer(number)) => number.to_string(),
+        Some(Item::Float(number)) => stored(number.0).to_string(),
         Some(Item::Utf8(text)) => text.clone(),
         other => format!("{other:?}"),
     }
@@ -236,6 +278,10 @@ fn plain(name: &str, of: &Rows) -> String {
         }
         Some(kind) if kind.contains("i32") => {
             let (nulls, least, greatest) = plain_extremes(&of.narrow, validity);
+            told((nulls, least.to_string(), greatest.to_string()))
+        }
+        Some(kind) if kind.contains("f64") => {
+            let (nulls, least, greatest) = plain_float_extremes(&of.floats, validity);
             told((nulls, least.to_string(), greatest.to_string()))
         }
         Some(_) => {
@@ -340,5 +386,11 @@ fn main() {
         );
         compare(name, aim, times.0, times.1);
     }
+    let [of_integers, of_floats] =
+        ["statistics of i64", "statistics of f64"].map(|name| seconds(|| ours(name, &made)));
+    println!(
+        "Rust, statistics of f64, a million rows: {:.2} of the time of i64; the aim is {AIM_OF_FLOATS}",
+        of_floats / of_integers
+    );
     sort(&made);
 }

@@ -3,72 +3,9 @@
 //! Columns as Arrow lays them out.
 
 use crate::integer::Integer;
-use crate::{out_of_memory, raw};
+use crate::{Float, Kind, out_of_memory, raw};
 use std::fmt;
 use std::marker::PhantomData;
-
-/// A kind of column. Dates, times, timestamps and durations are the integers that store them.
-#[derive(Clone, Copy, Debug, PartialEq, Eq, Hash)]
-#[repr(u8)]
-pub enum Kind {
-    /// Integers of 8 bits, without a sign.
-    U8,
-    /// Of 16 bits.
-    U16,
-    /// Of 32 bits.
-    U32,
-    /// Of 64 bits.
-    U64,
-    /// Integers of 8 bits, with a sign.
-    I8,
-    /// Of 16 bits.
-    I16,
-    /// Of 32 bits.
-    I32,
-    /// Of 64 bits.
-    I64,
-    /// A bitmap.
-    Bool,
-    /// Strings, with offsets of 32 bits.
-    Utf8,
-    /// Strings, with offsets of 64 bits.
-    LargeUtf8,
-    /// Bytes, with offsets of 32 bits.
-    Binary,
-    /// Bytes, with offsets of 64 bits.
-    LargeBinary,
-    /// Nulls alone, without a buffer.
-    Null,
-}
-
-impl Kind {
-    pub(crate) const INTEGERS: [Kind; 8] = [
-        Kind::U8,
-        Kind::U16,
-        Kind::U32,
-        Kind::U64,
-        Kind::I8,
-        Kind::I16,
-        Kind::I32,
-        Kind::I64,
-    ];
-
-    /// How many bytes an item has, if it is an integer.
-    pub(crate) fn width(self) -> Option<usize> {
-        Kind::INTEGERS
-            .contains(&self)
-            .then(|| 1 << (self as u8 % 4))
-    }
-
-    /// The kind of the same values, with offsets of 64 bits.
-    pub(crate) fn large(self) -> Kind {
-        match self {
-            Kind::Utf8 => Kind::LargeUtf8,
-            Kind::Binary => Kind::LargeBinary,
-            other => other,
-        }
-    }
-}
 
 /// A buffer of a column.
 #[derive(Clone, Copy, Debug, PartialEq, Eq)]
@@ -94,6 +31,8 @@ pub enum ColumnFault {
     BadOffsets(usize),
     /// This row, the first such one, is not UTF-8.
     NotUtf8(usize),
+    /// The number of this row, the first such one, is of no value of the logical type.
+    NotAValue(usize),
 }
 
 impl ColumnFault {
@@ -107,6 +46,7 @@ impl ColumnFault {
             (raw::TOO_SHORT, _) => ColumnFault::TooShort(Buffer::Offsets),
             (raw::BAD_OFFSETS, row) => ColumnFault::BadOffsets(row),
             (raw::NOT_UTF8, row) => ColumnFault::NotUtf8(row),
+            (raw::NOT_A_VALUE, row) => ColumnFault::NotAValue(row),
             (raw::NO_MEMORY, _) => out_of_memory(1),
             (other, _) => unreachable!("status {other} of a column"),
         }
@@ -123,6 +63,9 @@ impl fmt::Display for ColumnFault {
                 write!(f, "the offsets of row {row} go down, or past the end")
             }
             ColumnFault::NotUtf8(row) => write!(f, "row {row} is not UTF-8"),
+            ColumnFault::NotAValue(row) => {
+                write!(f, "the number of row {row} is of no value of the kind")
+            }
         }
     }
 }
@@ -161,8 +104,10 @@ impl std::error::Error for RowsError {}
 /// A value of a column.
 #[derive(Clone, Debug, PartialEq, Eq, Hash, PartialOrd, Ord)]
 pub enum Item {
-    /// An integer of any kind.
+    /// An integer of any kind; of a decimal, a date, a time or a timestamp the integer that stores it.
     Integer(i128),
+    /// A float of either width.
+    Float(Float),
     /// A truth.
     Bool(bool),
     /// A string.
@@ -178,19 +123,24 @@ impl Item {
             Kind::Bool => Item::Bool(bytes != [0]),
             Kind::Utf8 | Kind::LargeUtf8 => Item::Utf8(String::from_utf8_lossy(bytes).into_owned()),
             Kind::Binary | Kind::LargeBinary | Kind::Null => Item::Binary(bytes.to_vec()),
-            integer => {
-                let is_negative = integer as u8 >= Kind::I8 as u8 && bytes[bytes.len() - 1] >= 128;
-                let mut whole = [if is_negative { 255 } else { 0 }; 16];
-                whole[..bytes.len()].copy_from_slice(bytes);
-                Item::Integer(i128::from_le_bytes(whole))
-            }
+            Kind::F32 => Item::Float(Float(f32::from_bits(whole(kind, bytes) as u32).into())),
+            Kind::F64 => Item::Float(Float(f64::from_bits(whole(kind, bytes) as u64))),
+            _ => Item::Integer(whole(kind, bytes)),
         }
     }
 }
 
+/// The integer that is stored as these bytes.
+fn whole(kind: Kind, bytes: &[u8]) -> i128 {
+    let is_negative = kind.is_signed() && bytes[bytes.len() - 1] >= 128;
+    let mut whole = [if is_negative { 255 } else { 0 }; 16];
+    whole[..bytes.len()].copy_from_slice(bytes);
+    i128::from_le_bytes(whole)
+}
+
 /// A column, as Arrow lays it out. It borrows its memory, and nothing is copied on the way in.
 ///
-/// Nothing is asked of the buffers: a call tells of one that is too short, of offsets that go down, and of strings that are no
+/// Nothing is asked of the buffers: a call reports one that is too short, of offsets that go down, and of strings that are no
 /// UTF-8. No answer depends on the values under nulls.
 ///
 /// ```
@@ -214,9 +164,25 @@ pub struct Column<'a> {
     length: usize,
 }
 
-/// The bytes of integers.
+/// An integer that stores a decimal, a date, a time or a timestamp: `i32`, `i64` or `i128`.
+pub trait Stored: sealed::Stored {}
+
+mod sealed {
+    pub trait Stored: Copy {}
+}
+
+macro_rules! stored {
+    ($($integer:ty)*) => {$(
+        impl sealed::Stored for $integer {}
+        impl Stored for $integer {}
+    )*};
+}
+
+stored! { i32 i64 i128 }
+
+/// The bytes of integers or floats.
 fn bytes_of<T>(items: &[T]) -> &[u8] {
-    // SAFETY: integers have no padding, and each of their bytes is one. The length in bytes is that of the slice.
+    // SAFETY: numbers have no padding, and each of their bytes is one. The length in bytes is that of the slice.
     unsafe { std::slice::from_raw_parts(items.as_ptr().cast(), size_of_val(items)) }
 }
 
@@ -225,6 +191,52 @@ impl<'a> Column<'a> {
     #[must_use]
     pub fn integers<T: Integer>(values: &'a [T]) -> Column<'a> {
         let kind = Kind::INTEGERS[usize::from(T::KIND)];
+        Column::of(kind, bytes_of(values), &[], values.len())
+    }
+
+    /// A column of floats.
+    ///
+    /// ```
+    /// use doqallin::{Column, Float, Item, Statistics};
+    ///
+    /// let known = Statistics::of(&Column::floats(&[0.5, f64::NAN, -1.0]), 16)?;
+    /// assert_eq!(known.lower(), Some(&Item::Float(Float(-1.0))));
+    /// assert_eq!(known.upper(), Some(&Item::Float(Float(f64::NAN))));
+    /// # Ok::<(), doqallin::ColumnFault>(())
+    /// ```
+    #[must_use]
+    pub fn floats(values: &'a [f64]) -> Column<'a> {
+        Column::of(Kind::F64, bytes_of(values), &[], values.len())
+    }
+
+    /// A column of floats of 32 bits.
+    #[must_use]
+    pub fn narrow_floats(values: &'a [f32]) -> Column<'a> {
+        Column::of(Kind::F32, bytes_of(values), &[], values.len())
+    }
+
+    /// A column of integers that store values of this kind. It panics if the kind has items of another width, or others than such
+    /// integers. A number that is no value of the kind is reported when a call reads the column.
+    ///
+    /// ```
+    /// use doqallin::{Column, Filter, Kind, TimeUnit};
+    ///
+    /// let fares = Column::stored(Kind::decimal(10, 2).expect("such decimals"), &[1230i128, 995]);
+    /// let days = Column::stored(Kind::Date32, &[20_512i32, 20_513]);
+    /// let wanted: Filter = "fare = 12.3 and day < '2026-03-01'; fare decimal(10,2), day date".parse()?;
+    /// assert_eq!(wanted.mask(&[fares, days], 2)?, [true, false]);
+    /// let at = Column::stored(Kind::Timestamp(TimeUnit::Microseconds), &[0i64]);
+    /// assert_eq!(at.len(), 1);
+    /// # Ok::<(), doqallin::FilterError>(())
+    /// ```
+    #[must_use]
+    pub fn stored<T: Stored>(kind: Kind, values: &'a [T]) -> Column<'a> {
+        let is_stored = !matches!(kind, Kind::F32 | Kind::F64) && kind.is_signed();
+        assert!(
+            is_stored && kind.width() == Some(size_of::<T>()),
+            "{kind:?} is not stored by integers of {} bytes",
+            size_of::<T>()
+        );
         Column::of(kind, bytes_of(values), &[], values.len())
     }
 
@@ -296,7 +308,7 @@ impl<'a> Column<'a> {
     }
 
     /// The column with a bitmap of the rows that are not null. The bit of its first row is the bit at its offset. An empty
-    /// bitmap stands for none.
+    /// bitmap says that no row is null.
     #[must_use]
     pub fn with_validity(self, validity: &'a [u8]) -> Column<'a> {
         Column { validity, ..self }
@@ -349,9 +361,14 @@ impl<'a> Column<'a> {
         self.length.min(most)
     }
 
+    /// A column of its kind, without rows.
+    pub(crate) fn without_rows(&self) -> Column<'static> {
+        Column::of(self.kind, &[], &[], 0)
+    }
+
     pub(crate) fn raw(&self) -> raw::ArrowColumn {
         raw::ArrowColumn {
-            kind: self.kind as u8,
+            kind: self.kind.code(),
             validity: self.validity.as_ptr(),
             validity_length: self.validity.len(),
             values: self.values.as_ptr(),
@@ -378,6 +395,19 @@ impl<'a> RawColumns<'a> {
     pub fn of(columns: &[Column<'a>]) -> RawColumns<'a> {
         RawColumns {
             columns: columns.iter().map(Column::raw).collect(),
+            _lends: PhantomData,
+        }
+    }
+
+    /// So many columns that are of no kind.
+    pub fn of_no_kind(count: usize) -> RawColumns<'a> {
+        let of_no_kind = || {
+            let mut column = Column::nulls(0).raw();
+            column.kind.code = raw::NO_KIND;
+            column
+        };
+        RawColumns {
+            columns: std::iter::repeat_with(of_no_kind).take(count).collect(),
             _lends: PhantomData,
         }
     }
@@ -412,8 +442,7 @@ impl std::error::Error for CastError {}
 /// assert_eq!(cast_column::<u8>(&Column::integers(&[200i64, -7])), Err(CastError::NoValue(1)));
 /// ```
 pub fn cast_column<T: Integer>(column: &Column<'_>) -> Result<Vec<T>, CastError> {
-    let is_of_integers = column.kind.width().is_some();
-    let rows = if is_of_integers {
+    let rows = if column.kind.is_integer() {
         column.rows_in_memory()
     } else {
         0

@@ -9,7 +9,7 @@ use std::fmt;
 /// How deep a filter may nest, if nobody says.
 const DEPTH: usize = 32;
 
-/// What `parse` prepared is read at the depth that it was told, and at any greater one.
+/// What `parse` prepared is read at the depth that it was given, and at any greater one.
 const WHOLE: usize = usize::MAX;
 
 /// Why there is no filter, or why it cannot be asked.
@@ -126,7 +126,7 @@ impl Filter {
         let named = |(name, kind): &(&str, Kind)| raw::NamedKind {
             name: name.as_ptr(),
             name_length: name.len(),
-            kind: *kind as u8,
+            kind: kind.code(),
         };
         let kinds: Vec<raw::NamedKind> = columns.iter().map(named).collect();
         let mut buffer = vec![0; 256 + 4 * text.len()];
@@ -228,24 +228,69 @@ impl Filter {
             .collect())
     }
 
-    /// Whether each of so many rows matches. The columns are those of the filter, in their order, and each has so many rows. If
-    /// it was prepared for none, each row has the same answer.
+    /// Whether each of so many rows matches. The columns are those of the filter, in their order, and each that it names has so
+    /// many rows; another is not looked at. If it names none, each row has the same answer.
     pub fn mask(&self, columns: &[Column<'_>], rows: usize) -> Result<Vec<bool>, FilterError> {
-        // Where a column has other rows, or says more than its buffers have, the buffer is too small, and the columns are refused.
+        // Where a column has other rows, or says more than its buffers have, the buffer is too small. Then the columns are refused,
+        // or the filter does not name that one.
         let least = columns
             .iter()
             .map(Column::rows_in_memory)
             .fold(rows, usize::min);
         let raws = RawColumns::of(columns);
         let mut buffer = vec![0u8; least.div_ceil(8)];
+        let (mut status, mut fault) = self.write_mask(&raws, rows, &mut buffer);
+        if status == raw::BUFFER_TOO_SMALL {
+            self.expect_rows(columns, rows)?;
+            buffer.resize(rows.div_ceil(8), 0);
+            (status, fault) = self.write_mask(&raws, rows, &mut buffer);
+        }
+        match status {
+            raw::GIVEN => Ok((0..rows)
+                .map(|row| buffer[row / 8] >> (row % 8) & 1 == 1)
+                .collect()),
+            raw::UNKNOWN_KIND if fault.place == 1 => Err(FilterError::KindsDiffer(fault.column)),
+            other => Err(FilterError::Rows(RowsError::of(other, &fault))),
+        }
+    }
+
+    /// Refuses the first of the columns that the filter names which cannot be read, or is of another kind, or has other rows.
+    fn expect_rows(&self, columns: &[Column<'_>], rows: usize) -> Result<(), FilterError> {
+        // Asked of no rows, a filter refuses a column for its kind alone, and one of no kind only if it names it.
+        let mut raws = RawColumns::of_no_kind(columns.len());
+        let mut has_other_rows = false;
+        loop {
+            let (status, fault) = self.write_mask(&raws, 0, &mut []);
+            match (status, fault.place) {
+                (raw::UNKNOWN_KIND, 1) => return Err(FilterError::KindsDiffer(fault.column)),
+                _ if has_other_rows => return Err(FilterError::Rows(RowsError::WrongLength)),
+                (raw::UNKNOWN_KIND, _) => {}
+                (raw::GIVEN, _) => return Ok(()),
+                (other, _) => return Err(FilterError::Rows(RowsError::of(other, &fault))),
+            }
+            let named = &columns[fault.column];
+            Statistics::of(named, 0)
+                .map_err(|why| FilterError::Rows(RowsError::Column(fault.column, why)))?;
+            raws.columns[fault.column] = named.without_rows().raw();
+            has_other_rows = named.len() != rows;
+        }
+    }
+
+    /// Writes a bit for each row, if the buffer has so many.
+    fn write_mask(
+        &self,
+        columns: &RawColumns<'_>,
+        rows: usize,
+        buffer: &mut [u8],
+    ) -> (u32, raw::Fault) {
         let mut fault = raw::Fault::default();
         // SAFETY: each pointer and length are of one slice; the buffer and `fault` are places of their own.
         let status = unsafe {
             raw::doqallin_filter_mask(
                 self.bytes.as_ptr(),
                 self.bytes.len(),
-                raws.columns.as_ptr(),
-                raws.columns.len(),
+                columns.columns.as_ptr(),
+                columns.columns.len(),
                 rows,
                 WHOLE,
                 buffer.as_mut_ptr(),
@@ -253,39 +298,7 @@ impl Filter {
                 &mut fault,
             )
         };
-        match status {
-            raw::GIVEN => Ok((0..rows)
-                .map(|row| buffer[row / 8] >> (row % 8) & 1 == 1)
-                .collect()),
-            raw::UNKNOWN_KIND if fault.place == 1 => Err(FilterError::KindsDiffer(fault.column)),
-            raw::BUFFER_TOO_SMALL => Err(self.refusal(columns, rows)),
-            other => Err(FilterError::Rows(RowsError::of(other, &fault))),
-        }
-    }
-
-    /// Why columns are refused of which one has other rows, or says more than its buffers have: the first one decides.
-    fn refusal(&self, columns: &[Column<'_>], rows: usize) -> FilterError {
-        let wrong_length = FilterError::Rows(RowsError::WrongLength);
-        if columns.len() != self.width {
-            return wrong_length;
-        }
-        let without_rows =
-            |column: &Column<'_>| Column::from_buffers(column.kind(), &[], &[], 0, 0);
-        let of_kinds = self
-            .mask(&columns.iter().map(without_rows).collect::<Vec<_>>(), 0)
-            .err();
-        for (place, column) in columns.iter().enumerate() {
-            if let Err(fault) = Statistics::of(column, 0) {
-                return FilterError::Rows(RowsError::Column(place, fault));
-            }
-            if of_kinds == Some(FilterError::KindsDiffer(place)) {
-                return FilterError::KindsDiffer(place);
-            }
-            if column.len() != rows {
-                break;
-            }
-        }
-        wrong_length
+        (status, fault)
     }
 
     /// The prepared filter in its stable encoding.

@@ -39,6 +39,13 @@ pub enum KeysError {
     BadOffsets(usize),
     /// There are not as many options as kinds.
     WrongLength,
+    /// The number that this key has for this column is of no value of its logical type.
+    NotAValue {
+        /// The column.
+        column: usize,
+        /// The key.
+        row: usize,
+    },
 }
 
 impl fmt::Display for KeysError {
@@ -49,6 +56,9 @@ impl fmt::Display for KeysError {
                 write!(f, "the offsets of key {row} go down, or past the end")
             }
             KeysError::WrongLength => f.write_str("there are not as many options as kinds"),
+            KeysError::NotAValue { column, row } => {
+                write!(f, "key {row} has no value of the kind of column {column}")
+            }
         }
     }
 }
@@ -127,6 +137,28 @@ pub fn row_keys(columns: &[Column<'_>], options: &[SortOptions]) -> Result<RowKe
     }
 }
 
+/// The places of the rows in their order, column by column by its options. Rows that are equal stay in the order that they have.
+///
+/// ```
+/// use doqallin::{Column, SortOptions, sort_rows};
+///
+/// let columns = [Column::utf8(b"bab", &[0, 1, 2, 3]), Column::integers(&[1u8, 2, 3])];
+/// assert_eq!(sort_rows(&columns, &[SortOptions::default(); 2])?, [1, 0, 2]);
+/// # Ok::<(), doqallin::RowsError>(())
+/// ```
+pub fn sort_rows(columns: &[Column<'_>], options: &[SortOptions]) -> Result<Vec<usize>, RowsError> {
+    Ok(row_keys(columns, options)?.order())
+}
+
+/// The first eight bytes of a key, as a number that sorts as they do. What is behind its end is 0.
+fn first_bytes(key: Option<&[u8]>) -> u64 {
+    let mut first = [0; 8];
+    let key = key.unwrap_or_default();
+    let count = key.len().min(8);
+    first[..count].copy_from_slice(&key[..count]);
+    u64::from_be_bytes(first)
+}
+
 /// For how many rows the columns have memory, and how many bytes their keys may take. Where these are not enough, the call
 /// says what is.
 fn likely_buffer(columns: &[Column<'_>]) -> (usize, usize) {
@@ -135,7 +167,8 @@ fn likely_buffer(columns: &[Column<'_>]) -> (usize, usize) {
     let most = isize::MAX as usize / 66 / columns.len().max(1);
     let rows = rows.filter(|rows| *rows < most).unwrap_or(0);
     let of = |column: &Column<'_>| match (column.kind(), column.kind().width()) {
-        (_, Some(width)) => (width + 1) * rows,
+        // A decimal of more than 18 digits is keyed as bytes.
+        (_, Some(width)) => (width + 1 + width / 16 * 17) * rows,
         (Kind::Bool | Kind::Null, _) => rows,
         _ => column.raw().values_length.min(64 * rows) + 2 * rows,
     };
@@ -173,13 +206,27 @@ impl RowKeys {
         (0..self.len()).map_while(|row| self.get(row))
     }
 
+    /// The places of the keys in their order. Keys that are equal stay in the order that they have.
+    #[must_use]
+    pub fn order(&self) -> Vec<usize> {
+        let first = |row| (first_bytes(self.get(row)), row);
+        let mut rows: Vec<(u64, usize)> = (0..self.len()).map(first).collect();
+        rows.sort_by(|one, two| {
+            let whole = || self.get(one.1).cmp(&self.get(two.1));
+            one.0.cmp(&two.0).then_with(whole)
+        });
+        rows.into_iter().map(|(_, row)| row).collect()
+    }
+
     /// Where each key begins, and all bytes.
     #[must_use]
     pub fn parts(&self) -> (&[u64], &[u8]) {
         (&self.offsets, &self.bytes)
     }
 
-    /// The columns of the rows whose keys these are, by the options that the keys were made with. Each key is read once.
+    /// The columns of the rows whose keys these are, by the options that the keys were made with. Each key is read once. The key
+    /// of a float, a date or a decimal is that of the integer or the bytes that store it, so only the kinds say which it is. A
+    /// zero comes back without a sign, and each NaN as one NaN.
     ///
     /// ```
     /// use doqallin::{Column, Item, Kind, SortOptions, row_keys};
@@ -195,7 +242,7 @@ impl RowKeys {
         kinds: &[Kind],
         options: &[SortOptions],
     ) -> Result<Vec<OwnedColumn>, KeysError> {
-        let codes: Vec<u8> = kinds.iter().map(|kind| *kind as u8).collect();
+        let codes: Vec<raw::KindCode> = kinds.iter().map(|kind| kind.code()).collect();
         let options = option_bytes(options);
         let buffers_for =
             |kind: &Kind| OwnedColumn::buffer_for(kind.large(), self.len(), self.bytes.len());
@@ -205,7 +252,7 @@ impl RowKeys {
         let mut fault = raw::Fault::default();
         // SAFETY: each pointer and length are of one slice; the buffers and `fault` are places of their own.
         let status = unsafe {
-            raw::doqallin_columns_of_row_keys(
+            raw::doqallin_columns_of_typed_keys(
                 codes.as_ptr(),
                 codes.len(),
                 options.as_ptr(),
@@ -232,6 +279,10 @@ impl RowKeys {
             raw::BAD_BYTES => Err(KeysError::BadBytes(fault.place)),
             raw::BAD_OFFSETS => Err(KeysError::BadOffsets(fault.place)),
             raw::WRONG_LENGTH => Err(KeysError::WrongLength),
+            raw::NOT_A_VALUE => Err(KeysError::NotAValue {
+                column: fault.column,
+                row: fault.place,
+            }),
             raw::NO_MEMORY => out_of_memory(self.bytes.len()),
             other => unreachable!("status {other}: the buffers suffice"),
         }

@@ -23,6 +23,9 @@
 //! # Ok::<(), Box<dyn std::error::Error>>(())
 //! ```
 //!
+//! Columns have integers, floats, decimals, dates, times, timestamps, bools, strings or bytes. Floats sort as in PostgreSQL: NaN is
+//! equal to itself and above infinity, and -0.0 equals 0.0.
+//!
 //! Of strings the statistics have bounds, and count the nulls apart:
 //!
 //! ```
@@ -44,21 +47,25 @@ mod call;
 mod column;
 mod filter;
 mod filter_text;
+mod float;
 mod integer;
 mod keys;
+mod kinds;
 mod mistake;
 mod raw;
 mod statistics;
 mod truncation;
 mod zone;
 
-pub use arrow::{Buffer, CastError, Column, ColumnFault, Item, Kind, RowsError, cast_column};
+pub use arrow::{Buffer, CastError, Column, ColumnFault, Item, RowsError, Stored, cast_column};
 #[cfg(feature = "call")]
 pub use call::{call, call_within};
 pub use column::{ColumnError, column_bounds, column_bounds_text};
 pub use filter::{Filter, FilterError, Outcomes};
+pub use float::Float;
 pub use integer::{Integer, cast};
-pub use keys::{KeysError, OwnedColumn, RowKeys, SortOptions, row_keys};
+pub use keys::{KeysError, OwnedColumn, RowKeys, SortOptions, row_keys, sort_rows};
+pub use kinds::{DecimalKind, DecimalWidth, Kind, TimeUnit};
 pub use mistake::Mistake;
 pub use statistics::{Statistics, StatisticsError};
 pub use truncation::{lower_bound, lower_bound_text, upper_bound, upper_bound_text};

@@ -6,7 +6,7 @@ use std::fmt;
 
 macro_rules! mistakes {
     ($($name:ident $words:literal)*) => {
-        /// What is wrong with a text that is no filter, at the offset that is told with it.
+        /// What is wrong with a text that is no filter, at the offset that comes with it.
         #[derive(Clone, Copy, Debug, PartialEq, Eq, Hash)]
         #[non_exhaustive]
         pub enum Mistake {

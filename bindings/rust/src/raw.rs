@@ -18,6 +18,7 @@ pub const TOO_SHORT: u32 = 9;
 pub const BAD_BYTES: u32 = 10;
 pub const BAD_FILTER: u32 = 11;
 pub const WRONG_LENGTH: u32 = 12;
+pub const NOT_A_VALUE: u32 = 14;
 
 #[repr(C)]
 #[derive(Default)]
@@ -27,10 +28,22 @@ pub struct BoundLengths {
     pub has_upper: bool,
 }
 
+/// The code of no kind.
+pub const NO_KIND: u8 = u8::MAX;
+
+/// A kind by its code, with the precision and the scale of decimals.
+#[repr(C)]
+#[derive(Clone, Copy)]
+pub struct KindCode {
+    pub code: u8,
+    pub precision: u8,
+    pub scale: u8,
+}
+
 /// A column in Arrow's layout.
 #[repr(C)]
 pub struct ArrowColumn {
-    pub kind: u8,
+    pub kind: KindCode,
     pub validity: *const u8,
     pub validity_length: usize,
     pub values: *const u8,
@@ -78,7 +91,7 @@ pub struct Statistics {
 pub struct NamedKind {
     pub name: *const u8,
     pub name_length: usize,
-    pub kind: u8,
+    pub kind: KindCode,
 }
 
 #[repr(C)]
@@ -182,8 +195,8 @@ unsafe extern "C" {
         count: &mut usize,
         fault: &mut Fault,
     ) -> u32;
-    pub fn doqallin_merge_statistics(
-        kind: u8,
+    pub fn doqallin_merge_typed(
+        kind: &KindCode,
         one: *const u8,
         one_length: usize,
         other: *const u8,
@@ -193,8 +206,8 @@ unsafe extern "C" {
         count: &mut usize,
         fault: &mut Fault,
     ) -> u32;
-    pub fn doqallin_read_statistics(
-        kind: u8,
+    pub fn doqallin_read_typed(
+        kind: &KindCode,
         bytes: *const u8,
         bytes_length: usize,
         lower_buffer: *mut u8,
@@ -223,8 +236,8 @@ unsafe extern "C" {
         count: &mut usize,
         fault: &mut Fault,
     ) -> u32;
-    pub fn doqallin_columns_of_row_keys(
-        kinds: *const u8,
+    pub fn doqallin_columns_of_typed_keys(
+        kinds: *const KindCode,
         kinds_length: usize,
         options: *const u8,
         options_length: usize,

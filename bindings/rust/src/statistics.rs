@@ -14,6 +14,8 @@ pub enum StatisticsError {
     TooManyRows,
     /// The two are of columns of other kinds.
     KindsDiffer,
+    /// A bound is of no value of the logical type.
+    NotAValue,
 }
 
 impl fmt::Display for StatisticsError {
@@ -22,6 +24,7 @@ impl fmt::Display for StatisticsError {
             StatisticsError::BadBytes(place) => write!(f, "byte {place} is not of the encoding"),
             StatisticsError::TooManyRows => f.write_str("64 bits do not count the rows"),
             StatisticsError::KindsDiffer => f.write_str("the two are of other kinds"),
+            StatisticsError::NotAValue => f.write_str("a bound is of no value of the kind"),
         }
     }
 }
@@ -31,7 +34,7 @@ impl std::error::Error for StatisticsError {}
 /// How many rows a column has, how many are null, and bounds of the others.
 ///
 /// A bound that is exact is a value of the column; else it is only a bound. Statistics of parts, merged in any grouping, are
-/// those of the whole.
+/// those of the whole. Of floats NaN is the greatest value.
 ///
 /// ```
 /// use doqallin::{Column, Item, Statistics};
@@ -84,16 +87,17 @@ impl Statistics {
 
     /// The statistics of a column of this kind that the bytes are. Bytes from anywhere are safe to read.
     ///
-    /// What was written of integers is read as any kind of integers that has its bounds.
+    /// What was written of integers is read as any kind of integers that has its bounds. Statistics of a logical type name it, and
+    /// are of no other; decimals of one precision and scale are one type, whatever their width.
     pub fn from_bytes(kind: Kind, bytes: &[u8]) -> Result<Statistics, StatisticsError> {
         // So many bytes always suffice.
-        let buffer = bytes.len().max(8);
+        let buffer = bytes.len().max(16);
         let (mut lower, mut upper) = (vec![0; buffer], vec![0; buffer]);
         let (mut parts, mut fault) = (raw::Statistics::default(), raw::Fault::default());
         // SAFETY: each pointer and length are of one slice; the buffers, `parts` and `fault` are places of their own.
         let status = unsafe {
-            raw::doqallin_read_statistics(
-                kind as u8,
+            raw::doqallin_read_typed(
+                &kind.code(),
                 bytes.as_ptr(),
                 bytes.len(),
                 lower.as_mut_ptr(),
@@ -107,6 +111,7 @@ impl Statistics {
         match status {
             raw::GIVEN => {}
             raw::BAD_BYTES => return Err(StatisticsError::BadBytes(fault.place)),
+            raw::NOT_A_VALUE => return Err(StatisticsError::NotAValue),
             raw::NO_MEMORY => out_of_memory(bytes.len()),
             other => unreachable!("status {other}: the buffers suffice"),
         }
@@ -127,7 +132,7 @@ impl Statistics {
 
     /// The statistics of both columns together, which are of one kind.
     pub fn merge(&self, other: &Statistics) -> Result<Statistics, StatisticsError> {
-        if self.kind.large() != other.kind.large() {
+        if self.kind.general() != other.kind.general() {
             return Err(StatisticsError::KindsDiffer);
         }
         // Each bound is that of one of the two.
@@ -135,8 +140,8 @@ impl Statistics {
         let (mut count, mut fault) = (0, raw::Fault::default());
         // SAFETY: each pointer and length are of one slice; the buffer, `count` and `fault` are places of their own.
         let status = unsafe {
-            raw::doqallin_merge_statistics(
-                self.kind as u8,
+            raw::doqallin_merge_typed(
+                &self.kind.code(),
                 self.bytes.as_ptr(),
                 self.bytes.len(),
                 other.bytes.as_ptr(),

@@ -26,6 +26,35 @@ const KINDS: [Kind; 14] = [
     Kind::Null,
 ];
 
+/// Kinds of logical types.
+fn logical_kinds() -> Vec<Kind> {
+    let units = [
+        TimeUnit::Seconds,
+        TimeUnit::Milliseconds,
+        TimeUnit::Microseconds,
+        TimeUnit::Nanoseconds,
+    ];
+    let decimals = [
+        (DecimalWidth::Bits32, 9, 2),
+        (DecimalWidth::Bits64, 10, 2),
+        (DecimalWidth::Bits64, 18, 18),
+        (DecimalWidth::Bits128, 10, 2),
+        (DecimalWidth::Bits128, 19, 0),
+        (DecimalWidth::Bits128, 38, 9),
+    ];
+    let decimal = |(width, precision, scale)| DecimalKind::new(width, precision, scale).unwrap();
+    let times = [Kind::Time, Kind::Timestamp, Kind::TimestampUtc].map(|of| units.map(of));
+    [Kind::F32, Kind::F64, Kind::Date32]
+        .into_iter()
+        .chain(times.into_iter().flatten())
+        .chain(decimals.map(decimal).map(Kind::Decimal))
+        .collect()
+}
+
+fn all_kinds() -> Vec<Kind> {
+    KINDS.into_iter().chain(logical_kinds()).collect()
+}
+
 fn count() -> usize {
     let told = std::env::var("DOQALLIN_COUNT").ok();
     told.map_or(100_000, |told| told.parse().expect("a number"))
@@ -78,13 +107,33 @@ impl Random {
     }
 }
 
-/// How many bytes an integer has.
+/// How many bytes an item has.
 fn width(kind: Kind) -> usize {
-    1 << (kind as usize % 4)
+    match kind {
+        Kind::U8 | Kind::I8 => 1,
+        Kind::U16 | Kind::I16 => 2,
+        Kind::U32 | Kind::I32 | Kind::F32 | Kind::Date32 => 4,
+        Kind::Time(TimeUnit::Seconds | TimeUnit::Milliseconds) => 4,
+        Kind::Decimal(of) => match of.width() {
+            DecimalWidth::Bits32 => 4,
+            DecimalWidth::Bits64 => 8,
+            DecimalWidth::Bits128 => 16,
+        },
+        _ => 8,
+    }
 }
 
 fn is_integer(kind: Kind) -> bool {
-    (kind as u8) < 8
+    KINDS[..8].contains(&kind)
+}
+
+fn is_float(kind: Kind) -> bool {
+    matches!(kind, Kind::F32 | Kind::F64)
+}
+
+/// Whether a column has an item for each row.
+fn has_items(kind: Kind) -> bool {
+    is_integer(kind) || !KINDS.contains(&kind)
 }
 
 fn is_text(kind: Kind) -> bool {
@@ -99,13 +148,53 @@ fn offset_width(kind: Kind) -> usize {
     }
 }
 
-/// The least and the greatest integer of a kind.
+/// How many of a unit a second has.
+fn in_a_second(unit: TimeUnit) -> i128 {
+    match unit {
+        TimeUnit::Seconds => 1,
+        TimeUnit::Milliseconds => 1_000,
+        TimeUnit::Microseconds => 1_000_000,
+        TimeUnit::Nanoseconds => 1_000_000_000,
+    }
+}
+
+/// The least and the greatest integer of a kind, or those that store its values: the years are -9999 to 9999.
 fn limits(kind: Kind) -> (i128, i128) {
     let bits = 8 * width(kind);
-    if (kind as u8) < 4 {
-        (0, (1 << bits) - 1)
-    } else {
-        (-(1 << (bits - 1)), (1 << (bits - 1)) - 1)
+    match kind {
+        Kind::U8 | Kind::U16 | Kind::U32 | Kind::U64 => (0, (1 << bits) - 1),
+        Kind::Date32 => (-4_371_587, 2_932_896),
+        Kind::Time(unit) => (0, 86_400 * in_a_second(unit) - 1),
+        Kind::Timestamp(unit) | Kind::TimestampUtc(unit) => (
+            (-377_705_116_800 * in_a_second(unit)).max(i64::MIN.into()),
+            (253_402_300_800 * in_a_second(unit) - 1).min(i64::MAX.into()),
+        ),
+        Kind::Decimal(of) => {
+            let greatest = 10i128.pow(of.precision().into()) - 1;
+            (-greatest, greatest)
+        }
+        _ => (-(1 << (bits - 1)), (1 << (bits - 1)) - 1),
+    }
+}
+
+/// A float of any bits, or one of those that are treated apart.
+fn float(random: &mut Random, kind: Kind) -> f64 {
+    let special = [
+        0.0,
+        -0.0,
+        1.5,
+        -1.5,
+        f64::NAN,
+        -f64::NAN,
+        f64::INFINITY,
+        1e-310,
+    ];
+    let (special, any) = (random.one_of(&special), random.next());
+    match (kind, random.one_in(2)) {
+        (Kind::F32, true) => (special as f32).into(),
+        (Kind::F32, false) => f32::from_bits(any as u32).into(),
+        (_, true) => special,
+        (_, false) => f64::from_bits(any),
     }
 }
 
@@ -114,10 +203,13 @@ fn item(random: &mut Random, kind: Kind) -> Item {
         Kind::Bool => Item::Bool(random.one_in(2)),
         Kind::Utf8 | Kind::LargeUtf8 => Item::Utf8(String::from_utf8(random.text(true)).unwrap()),
         Kind::Binary | Kind::LargeBinary => Item::Binary(random.text(false)),
+        Kind::F32 | Kind::F64 => Item::Float(Float(float(random, kind))),
         integer => {
             let (least, greatest) = limits(integer);
             let small = random.below(19) as i128 - 9;
-            let any = least + i128::from(random.next()) % (greatest - least + 1);
+            let wide = u128::from(random.next()) << 64 | u128::from(random.next());
+            let span = greatest.wrapping_sub(least) as u128 + 1;
+            let any = least.wrapping_add((wide % span) as i128);
             Item::Integer(random.one_of(&[least, greatest, any, small.clamp(least, greatest)]))
         }
     }
@@ -158,6 +250,8 @@ fn rows(random: &mut Random, kind: Kind, count: usize) -> Vec<Option<Item>> {
 fn bytes_of(item: &Item, kind: Kind) -> Vec<u8> {
     match item {
         Item::Integer(number) => number.to_le_bytes()[..width(kind)].to_vec(),
+        Item::Float(number) if kind == Kind::F32 => (number.0 as f32).to_le_bytes().to_vec(),
+        Item::Float(number) => number.0.to_le_bytes().to_vec(),
         Item::Bool(truth) => vec![u8::from(*truth)],
         Item::Utf8(text) => text.clone().into_bytes(),
         Item::Binary(bytes) => bytes.clone(),
@@ -183,7 +277,7 @@ fn layout(random: &mut Random, kind: Kind, rows: Vec<Option<Item>>) -> Layout {
     let (mut values, mut offsets) = (Vec::new(), Vec::new());
     let mut bits = Vec::new();
     let mut end = random.below(3);
-    if !is_integer(kind) {
+    if !has_items(kind) {
         values = random.bytes(end);
     }
     offsets.extend_from_slice(&end.to_le_bytes()[..offset_width(kind)]);
@@ -195,7 +289,7 @@ fn layout(random: &mut Random, kind: Kind, rows: Vec<Option<Item>>) -> Layout {
         );
         let bytes = match row.flatten() {
             Some(item) => bytes_of(&item, kind),
-            None if is_integer(kind) => random.bytes(width(kind)),
+            None if has_items(kind) => random.bytes(width(kind)),
             None if kind == Kind::Bool => vec![random.one_in(2).into()],
             None => random.one_of(&[&b""[..], b"rubbish", b"\xc3"]).to_vec(),
         };
@@ -208,7 +302,7 @@ fn layout(random: &mut Random, kind: Kind, rows: Vec<Option<Item>>) -> Layout {
     let (values, offsets) = match kind {
         Kind::Bool => (bitmap(&bits), Vec::new()),
         Kind::Null => (Vec::new(), Vec::new()),
-        kind if is_integer(kind) => (values, Vec::new()),
+        kind if has_items(kind) => (values, Vec::new()),
         _ => (values, offsets),
     };
     let validity = if has_bitmap && kind != Kind::Null {
@@ -300,8 +394,8 @@ fn told(of: &Statistics) -> Known {
 
 #[test]
 fn statistics_of_each_kind() {
-    for kind in KINDS {
-        let mut random = Random(0x1234_5678 + kind as u64);
+    for (seed, kind) in (0..).zip(all_kinds()) {
+        let mut random = Random(0x1234_5678 + seed);
         for _ in 0..count() {
             let made = some_layout(&mut random, kind, 12);
             let n = random.one_of(&[0, 1, 3, 8, 16, usize::MAX]);
@@ -326,8 +420,8 @@ fn statistics_of_each_kind() {
 
 #[test]
 fn statistics_are_merged_and_read_back() {
-    for kind in KINDS {
-        let mut random = Random(0x2345_6789 + kind as u64);
+    for (seed, kind) in (0..).zip(all_kinds()) {
+        let mut random = Random(0x2345_6789 + seed);
         for _ in 0..count() / 10 {
             let parts: Vec<Layout> = (0..3).map(|_| some_layout(&mut random, kind, 5)).collect();
             let each: Vec<Statistics> = parts
@@ -359,7 +453,7 @@ fn hostile_statistics() {
     let mut random = Random(0x3456_789a);
     let (mut read, mut refused) = (0, 0);
     for _ in 0..count() {
-        let kind = random.one_of(&KINDS);
+        let kind = random.one_of(&all_kinds());
         let made = some_layout(&mut random, kind, 5);
         let mut bytes = Statistics::of(&made.column(), 3)
             .unwrap()
@@ -374,10 +468,11 @@ fn hostile_statistics() {
                 read += 1;
             }
             Err(error) => {
-                let StatisticsError::BadBytes(place) = error else {
-                    panic!("{error}")
-                };
-                assert!(place <= bytes.len());
+                match error {
+                    StatisticsError::BadBytes(place) => assert!(place <= bytes.len()),
+                    StatisticsError::NotAValue => assert!(has_items(kind) && !is_integer(kind)),
+                    error => panic!("{error}"),
+                }
                 refused += 1;
             }
         }
@@ -437,8 +532,30 @@ fn order(one: &[Option<Item>], two: &[Option<Item>], options: &[SortOptions]) ->
         .unwrap_or(Ordering::Equal)
 }
 
+/// The integer that stores a float: its bits without the sign, negated if the sign is set. All NaNs are one.
+fn stored(of: Float, kind: Kind) -> i128 {
+    let size: i128 = match (kind, of.0.is_nan()) {
+        (Kind::F32, true) => 0x7f80_0001,
+        (Kind::F32, false) => (of.0.abs() as f32).to_bits().into(),
+        (_, true) => 0x7ff0_0000_0000_0001,
+        (_, false) => of.0.abs().to_bits().into(),
+    };
+    if of.0 < 0.0 { -size } else { size }
+}
+
+/// What a row of a column is keyed as: an integer, a string or bytes. Decimals of more than 18 digits are bytes that sort.
+fn keyed(item: &Item, kind: Kind) -> Item {
+    match (item, kind) {
+        (Item::Float(of), _) => Item::Integer(stored(*of, kind)),
+        (Item::Integer(number), Kind::Decimal(of)) if of.precision() > 18 => {
+            Item::Binary((*number as u128 ^ 1 << 127).to_be_bytes().to_vec())
+        }
+        (item, _) => item.clone(),
+    }
+}
+
 /// The key of a row, by docs/KEYS.md.
-fn plain_key(row: &[Option<Item>], options: &[SortOptions]) -> Vec<u8> {
+fn plain_key(row: &[Option<Item>], kinds: &[Kind], options: &[SortOptions]) -> Vec<u8> {
     let escaped = |first: u8, bytes: &[u8]| {
         let mut key = vec![first];
         for byte in bytes {
@@ -466,12 +583,13 @@ fn plain_key(row: &[Option<Item>], options: &[SortOptions]) -> Vec<u8> {
             let digits = digits.iter().map(|byte| byte ^ mask);
             std::iter::once(first).chain(digits).collect()
         }
+        Item::Float(_) => unreachable!("a float is keyed as an integer"),
     };
     let mut whole = Vec::new();
-    for (item, of) in row.iter().zip(options) {
+    for ((item, kind), of) in row.iter().zip(kinds).zip(options) {
         let mask = if of.descending { 255 } else { 0 };
-        match item {
-            Some(item) => whole.extend(of_item(item).iter().map(|byte| byte ^ mask)),
+        match item.as_ref().map(|item| keyed(item, *kind)) {
+            Some(item) => whole.extend(of_item(&item).iter().map(|byte| byte ^ mask)),
             None => whole.push(if of.nulls_first { 1 } else { 255 }),
         }
     }
@@ -483,7 +601,8 @@ fn keys_sort_as_rows_and_come_back() {
     let mut random = Random(0x5678_9abc);
     for _ in 0..count() {
         let (width, length) = (1 + random.below(3), random.below(7));
-        let kinds: Vec<Kind> = (0..width).map(|_| random.one_of(&KINDS)).collect();
+        let all = all_kinds();
+        let kinds: Vec<Kind> = (0..width).map(|_| random.one_of(&all)).collect();
         let options: Vec<SortOptions> = (0..width)
             .map(|_| SortOptions {
                 descending: random.one_in(2),
@@ -517,8 +636,11 @@ fn keys_sort_as_rows_and_come_back() {
                 );
             }
         }
+        let mut wanted: Vec<usize> = (0..length).collect();
+        wanted.sort_by(|x, y| order(&row(*x), &row(*y), &options));
+        assert_eq!(sort_rows(&columns, &options), Ok(wanted));
         for place in 0..length {
-            let wanted = plain_key(&row(place), &options);
+            let wanted = plain_key(&row(place), &kinds, &options);
             assert_eq!(keys.get(place), Some(&wanted[..]), "{:?}", row(place));
         }
         let back = keys.columns(&kinds, &options).unwrap();
@@ -539,7 +661,7 @@ fn hostile_keys() {
     let mut random = Random(0x6789_abcd);
     let mut read = 0;
     for _ in 0..count() {
-        let kind = random.one_of(&KINDS);
+        let kind = random.one_of(&all_kinds());
         let bytes: Vec<u8> = (0..random.below(8))
             .map(|_| random.one_of(&[0, 1, 2, 12, 13, 21, 22, 97, 255]))
             .collect();
@@ -557,6 +679,9 @@ fn hostile_keys() {
             }
             Err(KeysError::BadOffsets(_)) => assert!(!are_sound),
             Err(KeysError::BadBytes(place)) => assert!(place <= keys.parts().1.len()),
+            Err(KeysError::NotAValue { column, row }) => {
+                assert!(column == 0 && row < keys.len() && !KINDS.contains(&kind));
+            }
             Err(error) => panic!("{error}"),
         }
     }
@@ -577,6 +702,19 @@ fn columns_that_differ_in_length() {
     );
 }
 
+/// Whether the item at a place stores a value of the kind. Each float is one.
+fn is_value(of: &Layout, place: usize) -> bool {
+    if is_float(of.kind) || is_integer(of.kind) {
+        return true;
+    }
+    let size = width(of.kind);
+    let bytes = &of.values[place * size..][..size];
+    let mut whole = [if bytes[size - 1] >= 128 { 255 } else { 0 }; 16];
+    whole[..size].copy_from_slice(bytes);
+    let (least, greatest) = limits(of.kind);
+    (least..=greatest).contains(&i128::from_le_bytes(whole))
+}
+
 /// What the test of a column says: by its buffers alone.
 fn plain_fault(of: &Layout, offset: usize, length: usize) -> Option<ColumnFault> {
     if of.kind == Kind::Null || length == 0 {
@@ -591,9 +729,15 @@ fn plain_fault(of: &Layout, offset: usize, length: usize) -> Option<ColumnFault>
     if !of.validity.is_empty() && is_short(&of.validity, 8, 1) {
         return Some(ColumnFault::TooShort(Buffer::Validity));
     }
-    if is_integer(of.kind) {
-        return is_short(&of.values, 1, width(of.kind) as u128)
-            .then_some(ColumnFault::TooShort(Buffer::Values));
+    let is_valid =
+        |place: usize| of.validity.is_empty() || of.validity[place / 8] >> (place % 8) & 1 == 1;
+    if has_items(of.kind) {
+        if is_short(&of.values, 1, width(of.kind) as u128) {
+            return Some(ColumnFault::TooShort(Buffer::Values));
+        }
+        let is_none = |row: &usize| is_valid(offset + row) && !is_value(of, offset + row);
+        let first = (0..length).find(is_none);
+        return first.map(ColumnFault::NotAValue);
     }
     if of.kind == Kind::Bool {
         return is_short(&of.values, 8, 1).then_some(ColumnFault::TooShort(Buffer::Values));
@@ -613,8 +757,6 @@ fn plain_fault(of: &Layout, offset: usize, length: usize) -> Option<ColumnFault>
     if let Some(row) = (0..length).find(|row| goes_down(row) || is_past(row)) {
         return Some(ColumnFault::BadOffsets(row));
     }
-    let is_valid =
-        |place: usize| of.validity.is_empty() || of.validity[place / 8] >> (place % 8) & 1 == 1;
     let is_bad = |row: &usize| {
         let bytes = &of.values[ends(*row).0 as usize..ends(*row).1 as usize];
         is_text(of.kind) && is_valid(offset + row) && std::str::from_utf8(bytes).is_err()
@@ -624,8 +766,8 @@ fn plain_fault(of: &Layout, offset: usize, length: usize) -> Option<ColumnFault>
 
 #[test]
 fn hostile_columns() {
-    for kind in KINDS {
-        let mut random = Random(0x789a_bcde + kind as u64);
+    for (seed, kind) in (0..).zip(all_kinds()) {
+        let mut random = Random(0x789a_bcde + seed);
         let (mut given, mut refused) = (0, 0);
         for _ in 0..count() / 4 {
             let mut made = some_layout(&mut random, kind, 6);
@@ -849,9 +991,124 @@ fn filters_from_one_text() {
         assert_eq!(text.parse(), wanted, "{text}");
     }
     for kind in KINDS {
-        let name = format!("{kind:?}").to_lowercase().replace("large", "large_");
-        assert_eq!(name.parse(), Ok(kind));
+        let name = format!("{kind:?}").to_lowercase();
+        assert_eq!(name.replace("large", "large_").parse(), Ok(kind));
     }
+    for (name, kind) in [
+        ("f32", Kind::F32),
+        ("f64?", Kind::F64),
+        ("date", Kind::Date32),
+        ("time(s)", Kind::Time(TimeUnit::Seconds)),
+        ("timestamp(ns)?", Kind::Timestamp(TimeUnit::Nanoseconds)),
+        (
+            "timestamp(us, UTC)",
+            Kind::TimestampUtc(TimeUnit::Microseconds),
+        ),
+        ("decimal( 10 , 2 )", Kind::decimal(10, 2).unwrap()),
+    ] {
+        assert_eq!(name.parse(), Ok(kind), "{name}");
+    }
+    for name in [
+        "f16",
+        "decimal(39,0)",
+        "decimal(2,3)",
+        "decimal(10)",
+        "timestamp",
+        "time(h)",
+        "timestamp(us,Oslo)",
+    ] {
+        assert_eq!(name.parse::<Kind>(), Err(Mistake::ExpectedKind), "{name}");
+    }
+}
+
+#[test]
+fn logical_types() {
+    let fares = [1230i128, 995, -5];
+    let fares = Column::stored(Kind::decimal(10, 2).unwrap(), &fares);
+    let days = [20_512i32, 20_513, 20_514];
+    let days = Column::stored(Kind::Date32, &days);
+    let prices = Column::floats(&[10.5, f64::NAN, f64::NEG_INFINITY]);
+    let text = "fare >= 9.95 and \"the day\" between '2026-02-28' and '2026-03-01' and price > 10; \
+                fare decimal( 10, 2 ), \"the day\" date?, price f64";
+    let filter: Filter = text.parse().unwrap();
+    // NaN is above all.
+    assert_eq!(
+        filter.mask(&[fares, days, prices], 3),
+        Ok(vec![true, true, false])
+    );
+    // A column that no filter names is not looked at.
+    let filter = Filter::parse("b = 1", &[("a", Kind::F64), ("b", Kind::I64)]).unwrap();
+    let odd = Column::from_buffers(Kind::Utf8, &[], &[], 9, 5);
+    assert_eq!(
+        filter.mask(&[odd, Column::integers(&[1i64, 2])], 2),
+        Ok(vec![true, false])
+    );
+    let beside_no_rows = |column, rows| filter.mask(&[Column::nulls(0), column], rows);
+    let nine = Column::integers(&[1i64; 9]);
+    assert_eq!(beside_no_rows(nine, 9), Ok(vec![true; 9]));
+    let wrong_length = Err(FilterError::Rows(RowsError::WrongLength));
+    assert_eq!(beside_no_rows(nine, usize::MAX), wrong_length);
+    let bytes = Column::integers(&[1u8; 9]);
+    assert_eq!(
+        beside_no_rows(bytes, usize::MAX),
+        Err(FilterError::KindsDiffer(1))
+    );
+    let cut = Column::from_buffers(Kind::I64, &[0; 7], &[], 0, 9);
+    let too_short = ColumnFault::TooShort(Buffer::Values);
+    assert_eq!(
+        beside_no_rows(cut, 9),
+        Err(FilterError::Rows(RowsError::Column(1, too_short)))
+    );
+
+    // Decimals of one precision and scale are one type, whatever their width.
+    let narrow = Kind::Decimal(DecimalKind::new(DecimalWidth::Bits32, 9, 2).unwrap());
+    let wide = Kind::decimal(9, 2).unwrap();
+    let one = Statistics::of(&Column::stored(narrow, &[7i32]), 16).unwrap();
+    let other = Statistics::of(&Column::stored(wide, &[9i128]), 16).unwrap();
+    assert_eq!(
+        told(&one.merge(&other).unwrap()).3,
+        Some((Item::Integer(9), true))
+    );
+    assert_eq!(
+        Statistics::from_bytes(wide, one.as_bytes())
+            .unwrap()
+            .lower(),
+        Some(&Item::Integer(7))
+    );
+    let mask = Filter::parse("x > 0.08", &[("x", wide)]).unwrap();
+    assert_eq!(
+        mask.mask(&[Column::stored(narrow, &[7i32, 9])], 2),
+        Ok(vec![false, true])
+    );
+
+    // The bytes of statistics name the type.
+    let known = Statistics::of(&Column::integers(&[1i64]), 16).unwrap();
+    let of_floats = Statistics::from_bytes(Kind::F64, known.as_bytes());
+    assert!(matches!(of_floats, Err(StatisticsError::BadBytes(_))));
+
+    // A time of 25 hours is none, and a key of it is none.
+    let time = Kind::Time(TimeUnit::Seconds);
+    let late = Column::stored(time, &[0i32, 90_000]);
+    assert_eq!(Statistics::of(&late, 16), Err(ColumnFault::NotAValue(1)));
+    let keys = row_keys(
+        &[Column::integers(&[0i32, 90_000])],
+        &[SortOptions::default()],
+    )
+    .unwrap();
+    let no_value = KeysError::NotAValue { column: 0, row: 1 };
+    assert_eq!(
+        keys.columns(&[time], &[SortOptions::default()]),
+        Err(no_value)
+    );
+    let no_integers = Err(CastError::Column(ColumnFault::UnknownKind));
+    assert_eq!(cast_column::<i64>(&late), no_integers);
+    let refused = std::panic::catch_unwind(|| Column::stored(Kind::F32, &[0i32]));
+    assert!(
+        refused.is_err() && std::panic::catch_unwind(|| Column::stored(time, &[0i64])).is_err()
+    );
+    assert!(
+        DecimalKind::new(DecimalWidth::Bits32, 10, 0).is_none() && Kind::decimal(0, 0).is_none()
+    );
 }
 
 fn error_words(error: &dyn std::error::Error) -> String {
@@ -894,5 +1151,8 @@ fn slices_and_offsets_of_rust() {
     assert_eq!(cast_column::<u8>(&far), Err(too_many));
     assert_eq!(too_many.to_string(), "64 bits do not count the rows");
     let error: &dyn std::error::Error = &RowsError::Column(1, ColumnFault::NotUtf8(2));
-    assert_eq!(error.to_string(), format!("column {}: row {} is not UTF-8", 1, 2));
+    assert_eq!(
+        error.to_string(),
+        format!("column {}: row {} is not UTF-8", 1, 2)
+    );
 }

@@ -37,12 +37,12 @@ encoding-of n bytes q h = record { version = h.0; is_version = h.1; has_encoding
 
 -- rows
 
-pub mask-given : (n : ℕ) (bytes : List ℕ) (q : PreparedFilter) (given : List DType) (columns : List Column) (count : ℕ) (buffer : List ℕ) → given ≡ q.columns.items → IsEncodingOf n bytes (prepared q) → AreColumnsOf columns (map type_of given) count
+pub mask-given : (n : ℕ) (bytes : List ℕ) (q : PreparedFilter) (given : List DType) (columns : List Column) (count : ℕ) (buffer : List ℕ) → given ≡ q.columns.items → IsEncodingOf n bytes (prepared q) → AreColumnsOf (formula q.filter) columns (map type_of given) count
     → IsMask (matching (formula q.filter) (cells_of_columns columns)) count buffer → IsFilterMask n bytes columns count buffer
-mask-given n bytes q given columns count buffer same is_encoding are is = record { filter = prepared q; is_encoding = is_encoding; are_columns = subst (λ ts. AreColumnsOf columns (map type_of ts) count) same are; mask = is }
+mask-given n bytes q given columns count buffer same is_encoding are is = record { filter = prepared q; is_encoding = is_encoding; are_columns = subst (λ ts. AreColumnsOf (formula q.filter) columns (map type_of ts) count) same are; mask = is }
 
-pub no-mask : (n : ℕ) (bytes : List ℕ) (q : PreparedFilter) (given : List DType) (columns : List Column) (count size : ℕ) (e : MaskError) → given ≡ q.columns.items → IsEncodingOf n bytes (prepared q) → IsMaskError columns (map type_of given) count size e → IsRowsError n bytes columns count size (rows.NoMask e)
-no-mask n bytes q given columns count size e same is_encoding fault = (prepared q, is_encoding, subst (λ ts. IsMaskError columns (map type_of ts) count size e) same fault)
+pub no-mask : (n : ℕ) (bytes : List ℕ) (q : PreparedFilter) (given : List DType) (columns : List Column) (count size : ℕ) (e : MaskError) → given ≡ q.columns.items → IsEncodingOf n bytes (prepared q) → IsMaskError (formula q.filter) columns (map type_of given) count size e → IsRowsError n bytes columns count size (rows.NoMask e)
+no-mask n bytes q given columns count size e same is_encoding fault = (prepared q, is_encoding, subst (λ ts. IsMaskError (formula q.filter) columns (map type_of ts) count size e) same fault)
 
 pub kept-so : (e : MaskError) (P : Type 0) → (e ≢ mask.OutOfMemory → P) → status_of_mask e ≢ NO_MEMORY → P
 kept-so e P kept other = kept (λ same. other (ap status_of_mask same))
@@ -99,7 +99,7 @@ module _ (law : EncodingsAreApart) (n : ℕ) (words : List ℕ) (named : List Na
   pub all_of_words : AreOfWords n words named bytes h
   all_of_words = record {
     read = never_bad;
-    columns = λ m columns count buffer g. subst (λ (q : Prepared). AreColumnsOf columns q.types count) (same_filter m g.filter g.is_encoding) g.are_columns;
+    columns = λ m columns count buffer g. subst (λ (q : Prepared). AreColumnsOf q.filter columns q.types count) (same_filter m g.filter g.is_encoding) g.are_columns;
     mask = λ m columns count buffer g. subst (λ (q : Prepared). IsMask (matching q.filter (cells_of_columns columns)) count buffer) (same_filter m g.filter g.is_encoding) g.mask;
     outcomes = λ m statistics offsets outcomes g. subst (λ (q : Prepared). AreOutcomes q.filter q.types statistics offsets outcomes) (same_filter m g.filter g.is_encoding) g.are_outcomes;
   }

@@ -1,11 +1,19 @@
 -- How long the encoding of two pieces is, and the bytes of a bound.
-use Rattle.std.proofs.Common.{◌≡◌, ◌≤◌, ◌+◌, ◌^◌, ℕ, zero, suc, Bool, true, false, List, [], ◌∷◌, ◌++◌, length, length-append, Option, Some, None, Ordering, if◌then◌else◌, nat_lt, arith, ap, refl}
+use Rattle.std.proofs.Common.{◌≡◌, ◌≤◌, ◌+◌, ◌^◌, ℕ, zero, suc, Bool, true, false, List, [], ◌∷◌, ◌++◌, length, length-append, Option, Some, None, Ordering, if◌then◌else◌, nat_lt, arith, ap, refl, ◌∙◌}
 use Rattle.std.specs.declared.cmp.Ordering.TheVariants.{Less, Equal, Greater}
 use Rattle.arrow_columns.specs.Integers.{width_of}
 use Rattle.arrow_columns.specs.declared.kinds.IntegerKind.{IntegerKind}
 use Rattle.arrow_columns.specs.declared.kinds.IntegerKind.TheVariants.{I16, I32, I64, I8, U16, U32, U64, U8}
 use Rattle.arrow_columns.specs.declared.kinds.Kind.{Kind}
-use Rattle.arrow_columns.specs.declared.kinds.Kind.TheVariants.{Binary, Boolean, Integer, LargeBinary, LargeUtf8, Utf8}
+use Rattle.arrow_columns.specs.declared.kinds.Kind.TheVariants.{Binary, Boolean, Integer, LargeBinary, LargeUtf8, Logical, Utf8}
+use Rattle.arrow_columns.specs.Formats.{items_of}
+use Rattle.arrow_columns.specs.Integers.{width_of_item}
+use Rattle.arrow_columns.specs.declared.formats.DecimalWidth.TheVariants.{Bits32, Bits64, Bits128}
+use Rattle.arrow_columns.specs.declared.formats.Format.{Format}
+use Rattle.arrow_columns.specs.declared.formats.Format.TheVariants as formats
+use Rattle.logical_types.specs.declared.times.TimeUnit.TheVariants.{Seconds, Milliseconds, Microseconds, Nanoseconds}
+use Rattle.named_statistics.specs.Heads.{head_of}
+use Rattle.named_statistics.specs.Named.{named_encoding}
 use Rattle.vortex_dtype.specs.TypeTree.{TypeTree}
 use Rattle.vortex_value.specs.Values.Content.{Content, null, sequence, string, tagged, text, truth, typed, whole}
 use Rattle.vortex_row.specs.Keys.{escaped, key}
@@ -15,7 +23,7 @@ use Rattle.vortex_statistics.specs.Merging.{bound_of_both, bound_order, merged, 
 use Rattle.vortex_statistics.specs.Statistics.{Known, KnownBound, may_be_value}
 use Rattle.column_statistics.specs.Encodings.{IsEncodingAs, IsMergedEncoding}
 use Rattle.column_statistics.specs.Items.{IsItemOf}
-use Rattle.vortex_c.specs.Parts.{AreParts, IsBoundTold, IsValueTold, SufficesFor}
+use Rattle.vortex_c.specs.Parts.{AreParts, IsBoundTold, IsValueTold, SufficesFor, room_of}
 use Rattle.vortex_c.specs.declared.parts.StatisticsParts.{StatisticsParts}
 
 -- ---- the encoding of two pieces
@@ -68,9 +76,12 @@ both_short s u =
       bound_short (bound_order order_from_above s.upper u.upper) (may_be_value s) (may_be_value u) s.upper u.upper,
     )
 
+named_length : (t : TypeTree) (s : Known) → length (named_encoding t s) ≡ length (head_of t) + length (encoding s)
+named_length t s = length-append (head_of t) (encoding s)
+
 pub merged_short : (t : TypeTree) (one other bytes : List ℕ) → IsMergedEncoding t one other bytes → length bytes ≤ length one + length other
 merged_short t one other bytes h =
-    omega (arith, ap length h.both.is, ap length h.is_first.is, ap length h.is_second.is, both_short h.first h.second)
+    omega (arith, ap length h.both.is, ap length h.is_first.is, ap length h.is_second.is, both_short h.first h.second, named_length t (merged h.first h.second), named_length t h.first, named_length t h.second)
 
 -- ---- the bytes of a bound
 
@@ -90,16 +101,30 @@ eight_at_most I16 = omega arith
 eight_at_most I32 = omega arith
 eight_at_most I64 = omega arith
 
-item_within : (kind : Kind) (x : Content) (bytes : List ℕ) (n : ℕ) → 8 ≤ n → length (key x) ≤ n → IsItemOf kind x bytes → length bytes ≤ n
+value_width : (format : Format) → width_of_item (items_of format) ≤ room_of (Some (Logical format))
+value_width formats.Float32 = omega arith
+value_width formats.Float64 = omega arith
+value_width formats.Date32 = omega arith
+value_width (formats.Time Seconds) = omega arith
+value_width (formats.Time Milliseconds) = omega arith
+value_width (formats.Time Microseconds) = omega arith
+value_width (formats.Time Nanoseconds) = omega arith
+value_width (formats.Timestamp unit is_zoned) = omega arith
+value_width (formats.Decimal Bits32 precision scale) = omega arith
+value_width (formats.Decimal Bits64 precision scale) = omega arith
+value_width (formats.Decimal Bits128 precision scale) = omega arith
+
+item_within : (kind : Kind) (x : Content) (bytes : List ℕ) (n : ℕ) → room_of (Some kind) ≤ n → length (key x) ≤ n → IsItemOf kind x bytes → length bytes ≤ n
 item_within (Integer k) (whole z) bytes n eight long h = omega (arith, h.0, eight_at_most k, eight)
 item_within Boolean (truth b) bytes n eight long h = omega (arith, ap length h, eight)
 item_within Utf8 (text s) bytes n eight long h = omega (arith, ap length h, escaped_long s, long)
 item_within LargeUtf8 (text s) bytes n eight long h = omega (arith, ap length h, escaped_long s, long)
 item_within Binary (string s) bytes n eight long h = omega (arith, ap length h, escaped_long s, long)
 item_within LargeBinary (string s) bytes n eight long h = omega (arith, ap length h, escaped_long s, long)
+item_within (Logical format) x bytes n eight long h = omega (arith, h.0, value_width format, eight)
 item_within _ _ bytes n eight long h = absurd h
 
-value_within : (kind : Kind) (x : Content) (exact is_there is_exact : Bool) (item : List ℕ) (n : ℕ) → 8 ≤ n → length (key x) ≤ n → IsValueTold kind x exact is_there is_exact item → length item ≤ n
+value_within : (kind : Kind) (x : Content) (exact is_there is_exact : Bool) (item : List ℕ) (n : ℕ) → room_of (Some kind) ≤ n → length (key x) ≤ n → IsValueTold kind x exact is_there is_exact item → length item ≤ n
 value_within kind null exact is_there is_exact item n eight long told = omega (arith, ap length told.2)
 value_within kind (truth b) exact is_there is_exact item n eight long told = item_within kind (truth b) item n eight long told.2
 value_within kind (whole z) exact is_there is_exact item n eight long told = item_within kind (whole z) item n eight long told.2
@@ -109,15 +134,15 @@ value_within kind (sequence cs) exact is_there is_exact item n eight long told =
 value_within kind (tagged id c) exact is_there is_exact item n eight long told = item_within kind (tagged id c) item n eight long told.2
 value_within kind (typed t c) exact is_there is_exact item n eight long told = item_within kind (typed t c) item n eight long told.2
 
-bound_within : (kind : Kind) (b : Option KnownBound) (is_there is_exact : Bool) (item : List ℕ) (n : ℕ) → 8 ≤ n → length (bound_bytes b) ≤ n → IsBoundTold kind b is_there is_exact item → length item ≤ n
+bound_within : (kind : Kind) (b : Option KnownBound) (is_there is_exact : Bool) (item : List ℕ) (n : ℕ) → room_of (Some kind) ≤ n → length (bound_bytes b) ≤ n → IsBoundTold kind b is_there is_exact item → length item ≤ n
 bound_within kind None is_there is_exact item n eight long told = omega (arith, ap length told.2)
 bound_within kind (Some b) is_there is_exact item n eight long told = value_within kind b.value.content b.is_exact is_there is_exact item n eight long told
 
 -- the bounds have no more bytes than such buffers
 pub bounds_fit : (t : TypeTree) (kind : Kind) (s : Known) (bytes lower_buffer upper_buffer lower upper : List ℕ) (p : StatisticsParts) → IsEncodingAs t bytes s → AreParts kind s lower upper p
-    → SufficesFor bytes lower_buffer → SufficesFor bytes upper_buffer → (p.lower_length ≤ length lower_buffer) × (p.upper_length ≤ length upper_buffer)
+    → SufficesFor (Some kind) bytes lower_buffer → SufficesFor (Some kind) bytes upper_buffer → (p.lower_length ≤ length lower_buffer) × (p.upper_length ≤ length upper_buffer)
 bounds_fit t kind s bytes lower_buffer upper_buffer lower upper p h parts one other =
-    let long : length bytes ≡ length (encoding s) = ap length h.is in
+    let long : length bytes ≡ length (head_of t) + length (encoding s) = ap length h.is ∙ named_length t s in
     let of_lower : length (bound_bytes s.lower) ≤ length lower_buffer = omega (arith, long, encoding_length s, one.1) in
     let of_upper : length (bound_bytes s.upper) ≤ length upper_buffer = omega (arith, long, encoding_length s, other.1) in (
       omega (arith, parts.lower_length, bound_within kind s.lower p.has_lower p.lower_is_exact lower (length lower_buffer) one.0 of_lower parts.lower_bound),

@@ -5,7 +5,10 @@ mod ColumnOrder
 mod FilterSteps
 mod KeyBackSteps
 mod KeySteps
+mod KindTypes
 mod Lengths
+mod LogicalLiterals
+mod LogicalWords
 mod NestSteps
 mod PartSteps
 mod SqlSteps

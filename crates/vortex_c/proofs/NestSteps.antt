@@ -6,12 +6,8 @@ use Rattle.std.specs.Option.{option_map}
 use Rattle.std.specs.Prelude.{option_and_then, slice_get}
 use Rattle.std.proofs.lemmas.List.{length-map}
 use Rattle.std.proofs.lemmas.Option.{slice_get-map, slice_get_within}
-use Rattle.arrow_columns.specs.Kinds.{kind_at}
-use Rattle.arrow_columns.specs.declared.kinds.Kind.{Kind}
-use Rattle.arrow_columns.specs.declared.kinds.Kind.TheVariants.{Binary, Boolean, Integer, LargeBinary, LargeUtf8, Null, Utf8}
 use Rattle.column_cells.specs.Types.{type_at}
-use Rattle.vortex_dtype.specs.TypeTree.{binary_type, bool_type, erase, integer_type, null_type, TypeTree, utf8_type}
-use Rattle.vortex_value.specs.Equality.{HasNoTyped}
+use Rattle.vortex_dtype.specs.TypeTree.{TypeTree}
 use Rattle.vortex_cells.specs.Cells.{Cell}
 use Rattle.vortex_filter.specs.declared.operator.CompareOperator.{CompareOperator}
 use Rattle.vortex_filter.specs.declared.operator.CompareOperator.TheVariants.{Eq, NotEq, Gt, Gte, Lt, Lte}
@@ -20,10 +16,8 @@ use Rattle.vortex_filter.specs.CheckSteps.{holds_strings}
 use Rattle.vortex_filter.specs.Literals.{LiteralTree, position_of, text_literal}
 use Rattle.vortex_filter.specs.Operators.{holds}
 use Rattle.vortex_filter.specs.Positions.{cells_of, comparison_above, comparison_of, exactly, for_values, just_above, lacking, member_among, member_of, PositionTree, prefix_of, range_of}
-use Rattle.vortex_filter.proofs.PositionLaws.{CellFits}
-use Rattle.filter_encoding.specs.Encoding.{CanBeWritten, HasByte, IsPlain, IsPlainCell, Nests}
+use Rattle.filter_encoding.specs.Encoding.{CanBeWritten, IsPlain, IsPlainCell, Nests}
 use Rattle.filter_encoding.specs.Lists.{AreListed, Fits}
-use Rattle.filter_encoding.proofs.TypeLaws.{plain_of}
 use Rattle.filter_sql.specs.ColumnNames.{column_named, column_there, ColumnTree, named_place, or_numbered, typed_place}
 use Rattle.filter_sql.specs.Grammar.{and_filter, AreLiterals, bare_test, between_literals, compares, group, in_literals, in_nothing, is_not_null, is_null, IsCondition, IsFilter, IsPredicate, IsTest, like_escaped, like_pattern, more_literals, not_filter, not_test, on_column, one_conjunction, one_literal, one_operand, or_filter, predicate, prefix_call, says_false, says_null, says_true}
 use Rattle.filter_sql.specs.Literals.{begun, Condition, formula_in, missing, positions_of}
@@ -31,11 +25,13 @@ use Rattle.filter_sql.specs.Parsing.{IsSqlWithin, tokens_in, types_of}
 use Rattle.filter_sql.specs.Texts.{AreItemsOf, Item, Leads, trimmed}
 use Rattle.filter_sql.specs.Tokens.{closing, comma, TokenTree}
 use Rattle.filter_sql.proofs.ConditionSteps.{bind_some, guard_some, map_some, some_members, stand_parts}
-use Rattle.filter_sql.proofs.FitLaws.{IsUntyped, literal_fits, literal_untyped}
 use Rattle.filter_sql.proofs.NestLaws.{height, whole-low}
 use Rattle.filter_sql.proofs.Runs.{front_again}
 use Rattle.filter_sql.proofs.Taken.{token_shorter}
-use Rattle.vortex_c.specs.FilterSql.{encoding_depth, prepared_of, tree_of_kind, trees_of_kinds, types_of_kinds}
+use Rattle.vortex_filter.proofs.LiteralTypes.{TypesSay, WordsSay}
+use Rattle.vortex_c.proofs.KindTypes.{plain-column}
+use Rattle.vortex_c.proofs.LogicalLiterals.{AreSaid, IsPlainSaid, plain-said}
+use Rattle.vortex_c.specs.FilterSql.{encoding_depth, kind_of_named, prepared_of, tree_of_kind, trees_of_kinds, types_of_kinds}
 use Rattle.vortex_c.specs.declared.sql.NamedKind.{NamedKind}
 
 -- ---- a formula that has bytes
@@ -68,41 +64,6 @@ nests (negation f) (suc n) h l = nests f n h (omega (arith, l))
 
 -- ---- its literals
 
--- a type is as plain as what it is without nullability
-plain-erased : (t : TypeTree) → HasByte t → HasByte (erase t)
-plain-erased null_type h = tt
-plain-erased (bool_type n) h = tt
-plain-erased (integer_type k n) h = tt
-plain-erased (utf8_type n) h = tt
-plain-erased (binary_type n) h = tt
-plain-erased _ h = absurd h
-
-plain-back : (t : TypeTree) → HasByte (erase t) → HasByte t
-plain-back null_type h = tt
-plain-back (bool_type n) h = tt
-plain-back (integer_type k n) h = tt
-plain-back (utf8_type n) h = tt
-plain-back (binary_type n) h = tt
-plain-back _ h = absurd h
-
--- a literal of a type that has a byte is of no logical type
-plain-cell : (x : Cell) → HasByte x.typed → HasNoTyped x.content → IsPlainCell x
-plain-cell x h untyped = record { plain = plain_of x.typed h; untyped = untyped; logical = λ l is. absurd (subst HasByte is.typed h) }
-
--- where a literal stands is a cell of a type that has a byte, or none
-abbrev IsPlainSaid : PositionTree → Type 0
-IsPlainSaid (exactly x) = IsPlainCell x
-IsPlainSaid (just_above x) = IsPlainCell x
-IsPlainSaid (lacking o) = Unit {0}
-
-stands-plain : (t : TypeTree) (p : PositionTree) → HasByte t → CellFits t p → IsUntyped p → IsPlainSaid p
-stands-plain t (exactly x) h fits untyped = plain-cell x (plain-back x.typed (subst HasByte fits (plain-erased t h))) untyped
-stands-plain t (just_above x) h fits untyped = plain-cell x (plain-back x.typed (subst HasByte fits (plain-erased t h))) untyped
-stands-plain t (lacking o) h fits untyped = tt
-
-literal-plain : (t : TypeTree) (l : LiteralTree) (p : PositionTree) → HasByte t → position_of t l ≡ Some p → IsPlainSaid p
-literal-plain t l p h e = stands-plain t p h (literal_fits t l p e) (literal_untyped t l p e)
-
 -- the cells of literals are of such types, and no more than there are tokens
 record AreFew (ts : List TokenTree) (xs : List Cell) : Type 0 where
   plain : AllByRecursion IsPlainCell xs
@@ -116,15 +77,15 @@ one-more ts us (lacking o) ps less said few = record { plain = few.plain; count 
 none-few : (t : TypeTree) (ps : List PositionTree) → positions_of t [] ≡ Some ps → AreFew [] (cells_of ps)
 none-few t ps e = let same : [] ≡ ps = cc in subst (λ (qs : List PositionTree). AreFew [] (cells_of qs)) same (record { plain = tt; count = omega arith })
 
-literals-few : (t : TypeTree) {ts : List TokenTree} {ls : List LiteralTree} → HasByte t → AreLiterals ts ls → (ps : List PositionTree) → positions_of t ls ≡ Some ps → AreFew ts (cells_of ps)
+literals-few : (t : TypeTree) {ts : List TokenTree} {ls : List LiteralTree} → AreSaid t → AreLiterals ts ls → (ps : List PositionTree) → positions_of t ls ≡ Some ps → AreFew ts (cells_of ps)
 literals-few t h (one_literal {x} {l} said) ps e =
     let p = stand_parts t l [] ps e in
-    subst (λ (qs : List PositionTree). AreFew (x ∷ []) (cells_of qs)) p.whole (one-more [] (x ∷ []) p.first p.others (omega arith) (literal-plain t l p.first h p.stands) (none-few t p.others p.stand))
+    subst (λ (qs : List PositionTree). AreFew (x ∷ []) (cells_of qs)) p.whole (one-more [] (x ∷ []) p.first p.others (omega arith) (h l p.first p.stands) (none-few t p.others p.stand))
 literals-few t h (more_literals {x} {l} {ts} {ls} said more) ps e =
     let p = stand_parts t l ls ps e in
-    subst (λ (qs : List PositionTree). AreFew (x ∷ comma ∷ ts) (cells_of qs)) p.whole (one-more ts (x ∷ comma ∷ ts) p.first p.others (omega arith) (literal-plain t l p.first h p.stands) (literals-few t h more p.others p.stand))
+    subst (λ (qs : List PositionTree). AreFew (x ∷ comma ∷ ts) (cells_of qs)) p.whole (one-more ts (x ∷ comma ∷ ts) p.first p.others (omega arith) (h l p.first p.stands) (literals-few t h more p.others p.stand))
 
-module _ (k : ℕ) (t : TypeTree) (fits : Fits k) (plain : HasByte t) where
+module _ (k : ℕ) (t : TypeTree) (fits : Fits k) (stands : AreSaid t) where
   lacking-form : (b : Bool) → HasForm (for_values b k)
   lacking-form true = (fits, tt)
   lacking-form false = (fits, tt)
@@ -166,7 +127,7 @@ module _ (k : ℕ) (t : TypeTree) (fits : Fits k) (plain : HasByte t) where
   begun-form l f e =
       let g = guard_some (holds_strings t) (option_and_then (prefix_of k) (position_of t l)) f e in
       let a = bind_some (position_of t l) (prefix_of k) f g.1 in
-      prefix-form a.0 f (literal-plain t l a.0 plain a.1) a.2
+      prefix-form a.0 f (stands l a.0 a.1) a.2
 
   test-form : {ts : List TokenTree} {c : Condition} → length ts < 2 ^ 64 → IsTest ts c → (f : Formula) → formula_in k t c ≡ Some f → HasForm f
   test-form few in_nothing f e =
@@ -175,20 +136,20 @@ module _ (k : ℕ) (t : TypeTree) (fits : Fits k) (plain : HasByte t) where
       subst HasForm m.2 (subst (λ (ps : List PositionTree). HasForm (member_among k ps)) none (fits, record { fit = omega arith; each = tt }))
   test-form few (in_literals {ts} {ls} l) f e =
       let m = map_some (positions_of t ls) (member_among k) f e in
-      let each = literals-few t plain l m.0 m.1 in
+      let each = literals-few t stands l m.0 m.1 in
       let form = member-form (cells_of m.0) each.plain (omega (arith, few, each.count, length-append ts (closing ∷ []))) in
       subst HasForm m.2 (subst HasForm (some_members k t l m.0 m.1) form)
   test-form few (between_literals {x} {y} {lower} {upper} low high) f e =
       let a = bind_some (position_of t lower) (λ p. option_map (range_of k p) (position_of t upper)) f e in
       let b = map_some (position_of t upper) (range_of k a.0) f a.2 in
-      subst HasForm b.2 (range-form a.0 b.0 (literal-plain t lower a.0 plain a.1) (literal-plain t upper b.0 plain b.1))
+      subst HasForm b.2 (range-form a.0 b.0 (stands lower a.0 a.1) (stands upper b.0 b.1))
   test-form few (like_pattern {pattern} {bs} p u) f e = begun-form (text_literal bs) f e
   test-form few (like_escaped {pattern} {bs} p u) f e = begun-form (text_literal bs) f e
 
   condition-form : {ts : List TokenTree} {c : Condition} → length ts < 2 ^ 64 → IsCondition ts c → (f : Formula) → formula_in k t c ≡ Some f → HasForm f
   condition-form few (compares {op} {x} {l} said) f e =
       let m = map_some (position_of t l) (comparison_of k op) f e in
-      subst HasForm m.2 (comparison-form op m.0 (literal-plain t l m.0 plain m.1))
+      subst HasForm m.2 (comparison-form op m.0 (stands l m.0 m.1))
   condition-form few is_null f e = let same : null_test k ≡ f = cc in subst HasForm same fits
   condition-form few is_not_null f e =
       let m = map_some (formula_in k t missing) negation f e in
@@ -230,7 +191,7 @@ right-short ts x us short = omega (arith, short, length-append ts (x ∷ us))
 
 -- each column is of a type that has a byte
 abbrev ArePlain : List ColumnTree → Type 0
-ArePlain columns = (k : ℕ) (t : TypeTree) → slice_get (types_of columns) k ≡ Some t → HasByte t
+ArePlain columns = (k : ℕ) (t : TypeTree) → slice_get (types_of columns) k ≡ Some t → AreSaid t
 
 module _ (columns : List ColumnTree) (plain : ArePlain columns) (few : length columns < 2 ^ 64) where
   place-fits : (k : ℕ) (t : TypeTree) → slice_get (types_of columns) k ≡ Some t → Fits k
@@ -274,38 +235,28 @@ tokens-few text items h =
 
 -- ---- filters of words, over columns by name and kind
 
-plain-kind : (o : Option Kind) → HasByte (type_at o)
-plain-kind None = tt
-plain-kind (Some (Integer kind)) = tt
-plain-kind (Some Boolean) = tt
-plain-kind (Some Utf8) = tt
-plain-kind (Some LargeUtf8) = tt
-plain-kind (Some Binary) = tt
-plain-kind (Some LargeBinary) = tt
-plain-kind (Some Null) = tt
-
 plain-kinds : (named : List NamedKind) → AllByRecursion IsPlain (types_of_kinds named)
 plain-kinds [] = tt
-plain-kinds (column ∷ named) = (plain_of (type_at (kind_at column.kind)) (plain-kind (kind_at column.kind)), plain-kinds named)
+plain-kinds (column ∷ named) = (plain-column column, plain-kinds named)
 
-plain-column : (k : ℕ) (t : TypeTree) (o : Option NamedKind) → option_map (λ (c : ColumnTree). c.typed) (option_map tree_of_kind o) ≡ Some t → HasByte t
-plain-column k t None e = absurd cc
-plain-column k t (Some column) e =
-    let is : type_at (kind_at column.kind) ≡ t = cc in
-    subst HasByte is (plain-kind (kind_at column.kind))
+said-there : TypesSay → WordsSay → (t : TypeTree) (o : Option NamedKind) → option_map (λ (c : ColumnTree). c.typed) (option_map tree_of_kind o) ≡ Some t → AreSaid t
+said-there say words t None e = absurd cc
+said-there say words t (Some column) e =
+    let is : type_at (kind_of_named column) ≡ t = cc in
+    subst AreSaid is (plain-said say words (type_at (kind_of_named column)) (plain-column column))
 
-plain-columns : (named : List NamedKind) → ArePlain (trees_of_kinds named)
-plain-columns named k t e =
-    plain-column k t (slice_get named k) (ap (option_map (λ (c : ColumnTree). c.typed)) (sym (slice_get-map tree_of_kind named k)) ∙ sym (slice_get-map (λ (c : ColumnTree). c.typed) (trees_of_kinds named) k) ∙ e)
+plain-columns : TypesSay → WordsSay → (named : List NamedKind) → ArePlain (trees_of_kinds named)
+plain-columns say words named k t e =
+    said-there say words t (slice_get named k) (ap (option_map (λ (c : ColumnTree). c.typed)) (sym (slice_get-map tree_of_kind named k)) ∙ sym (slice_get-map (λ (c : ColumnTree). c.typed) (trees_of_kinds named) k) ∙ e)
 
 -- the filter that words are can be written at the depth that goes with theirs
-pub words-nest : (n : ℕ) (words : List ℕ) (named : List NamedKind) (f : Formula) → length words < 2 ^ 64 → length named < 2 ^ 64 → IsSqlWithin n (trees_of_kinds named) words f → CanBeWritten (encoding_depth n) (prepared_of named f)
-words-nest n words named f short few h =
+pub words-nest : TypesSay → WordsSay → (n : ℕ) (words : List ℕ) (named : List NamedKind) (f : Formula) → length words < 2 ^ 64 → length named < 2 ^ 64 → IsSqlWithin n (trees_of_kinds named) words f → CanBeWritten (encoding_depth n) (prepared_of named f)
+words-nest say read n words named f short few h =
     let tokens = tokens-few words h.items h.are in
     let low = whole-low h.means in
     record {
-      types = record { fit = omega (arith, few, length-map named (λ (column : NamedKind). type_at (kind_at column.kind))); each = plain-kinds named };
+      types = record { fit = omega (arith, few, length-map named (λ (column : NamedKind). type_at (kind_of_named column))); each = plain-kinds named };
       filter = nests f (encoding_depth n)
-          (filter-form (trees_of_kinds named) (plain-columns named) (omega (arith, few, length-map named tree_of_kind)) (omega (arith, short, tokens)) h.means)
+          (filter-form (trees_of_kinds named) (plain-columns say read named) (omega (arith, few, length-map named tree_of_kind)) (omega (arith, short, tokens)) h.means)
           (omega (arith, low.high, low.tokens, tokens, short));
     }

@@ -1,7 +1,12 @@
 -- Steps of the exports for statistics.
 use Rattle.std.proofs.Common.{◌≡◌, ◌≢◌, ◌∙◌, ◌<◌, ◌≤◌, ◌⊎◌, ℕ, Bool, true, List, drop, length, take, Option, Some, None, is_some, option_map, unwrap_or, ap, arith, inl, inr, refl, subst, sym}
 use Rattle.arrow_columns.specs.declared.kinds.Kind.{Kind}
-use Rattle.arrow_columns.specs.declared.kinds.Kind.TheVariants.{Binary, Boolean, Integer, LargeBinary, LargeUtf8, Null, Utf8}
+use Rattle.arrow_columns.specs.declared.kinds.Kind.TheVariants.{Binary, Boolean, Integer, LargeBinary, LargeUtf8, Logical, Null, Utf8}
+use Rattle.arrow_columns.specs.Formats.{items_of}
+use Rattle.arrow_columns.specs.Integers.{number_of}
+use Rattle.std.proofs.lemmas.Bool.{false≢true}
+use Rattle.vortex_cells.specs.Cells.{is_null_content}
+use Rattle.column_statistics.proofs.ValueLaws.{stored_some}
 use Rattle.vortex_value.specs.Values.Content.{Content, null, sequence, string, tagged, text, truth, typed, whole}
 use Rattle.vortex_value.specs.Values.Scalars.{scalar_content}
 use Rattle.vortex_statistics.specs.Statistics.{Known, KnownBound, known_bound}
@@ -57,6 +62,7 @@ null_item LargeUtf8 bytes h = h
 null_item Binary bytes h = h
 null_item LargeBinary bytes h = h
 null_item Null bytes h = h
+null_item (Logical format) bytes h = false≢true (sym (stored_some format (number_of (items_of format) bytes)) ∙ ap is_null_content h.1)
 
 -- a value that has bytes is told with these
 value_told : (kind : Kind) (x : Content) (exact : Bool) (bytes : List ℕ) → IsItemOf kind x bytes → IsValueTold kind x exact true exact bytes

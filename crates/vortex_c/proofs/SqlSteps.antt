@@ -6,7 +6,6 @@ use Rattle.std.specs.Str.{IsUtf8}
 use Rattle.std.proofs.lemmas.Bool.{cases_lt}
 use Rattle.std.proofs.lemmas.List.{map-append, take_all, take_more}
 use Rattle.std.proofs.lemmas.Option.{slice_get-get_or, same_Some}
-use Rattle.arrow_columns.specs.Kinds.{kind_at}
 use Rattle.column_cells.specs.Types.{type_at}
 use Rattle.filter_encoding.specs.Encoding.{CanBeWritten, HasEncoding, Prepared, parts_of}
 use Rattle.vortex_dtype.specs.TypeOf.{type_of}
@@ -20,8 +19,9 @@ use Rattle.filter_sql.specs.declared.column.Column.{Column}
 use Rattle.vortex_filter.specs.declared.filter.Filter.{Filter}
 use Rattle.filter_sql.specs.declared.error.ParseError.{ParseError}
 use Rattle.filter_sql.specs.declared.error.ParseError.TheVariants as errors
+use Rattle.vortex_filter.proofs.LiteralTypes.{TypesSay, WordsSay}
 use Rattle.vortex_c.proofs.NestSteps.{words-nest}
-use Rattle.vortex_c.specs.FilterSql.{AreNamed, AreNamedBefore, IsColumnError, IsColumnsError, IsNamed, IsPreparedFrom, IsSqlError, IsTextError, IsUnfit, WritesEncoding, encoding_depth, fault_of_words, prepared_of, tree_of_kind, trees_of_kinds, types_of_kinds}
+use Rattle.vortex_c.specs.FilterSql.{AreNamed, AreNamedBefore, IsColumnError, IsColumnsError, IsNamed, IsPreparedFrom, IsSqlError, IsTextError, IsUnfit, WritesEncoding, encoding_depth, fault_of_words, kind_of_named, prepared_of, tree_of_kind, trees_of_kinds, types_of_kinds}
 use Rattle.vortex_c.specs.declared.sql.NamedKind.{NamedKind}
 use Rattle.vortex_c.specs.declared.sql.SqlError.{SqlError}
 use Rattle.vortex_c.specs.declared.sql.SqlError.TheVariants.{NameNotUtf8, NoFilter, NoEncoding, NotAKind, NotUtf8, OutOfMemory}
@@ -76,9 +76,9 @@ named-at columns k d here all = all k (get_or columns k d) here (slice_get-get_o
 -- ---- types, one by one
 
 abbrev type_of_kind_at : NamedKind → TypeTree
-type_of_kind_at column = type_at (kind_at column.kind)
+type_of_kind_at column = type_at (kind_of_named column)
 
-pub types-more : (columns : List NamedKind) (k : ℕ) (d : NamedKind) (types more : List DType) (x : DType) → k < length columns → map type_of types ≡ types_of_kinds (take k columns) → type_of x ≡ type_at (kind_at (get_or columns k d).kind) → more ≡ types ++ x ∷ []
+pub types-more : (columns : List NamedKind) (k : ℕ) (d : NamedKind) (types more : List DType) (x : DType) → k < length columns → map type_of types ≡ types_of_kinds (take k columns) → type_of x ≡ type_at (kind_of_named (get_or columns k d)) → more ≡ types ++ x ∷ []
     → map type_of more ≡ types_of_kinds (take (k + 1) columns)
 types-more columns k d types more x here all one e =
     ap (map type_of) e ∙ map-append type_of types (x ∷ []) ∙ ap₂ (λ xs y. xs ++ y ∷ []) all one ∙ sym (map-append type_of_kind_at (take k columns) (get_or columns k d ∷ [])) ∙ ap types_of_kinds (sym (take_more columns k d here))
@@ -165,9 +165,9 @@ module _ (n m : ℕ) (words text : List ℕ) (columns : List NamedKind) (f : For
   prepared-from (Ok bytes) h = record { named = all; filter = f; means = means; written = subst (λ k. HasEncoding k (prepared_of columns f)) depth h.0; is = h.1 }
   prepared-from (Err e) h = tt
 
-  pub encoding-fault : length words < 2 ^ 64 → length columns < 2 ^ 64 → (r : Result (Vec ℕ Global) SqlError) → WritesEncoding m (prepared_of columns f) r → IfErr r (IsSqlError n words columns)
-  encoding-fault short few (Ok bytes) h = tt
-  encoding-fault short few (Err e) (inl none) = subst (IsSqlError n words columns) (sym none) (all, u.1)
-  encoding-fault short few (Err e) (inr deep) = absurd (deep.1 (subst (λ k. CanBeWritten k (prepared_of columns f)) (sym depth) (words-nest n words columns f short few means)))
+  pub encoding-fault : TypesSay → WordsSay → length words < 2 ^ 64 → length columns < 2 ^ 64 → (r : Result (Vec ℕ Global) SqlError) → WritesEncoding m (prepared_of columns f) r → IfErr r (IsSqlError n words columns)
+  encoding-fault types said short few (Ok bytes) h = tt
+  encoding-fault types said short few (Err e) (inl none) = subst (IsSqlError n words columns) (sym none) (all, u.1)
+  encoding-fault types said short few (Err e) (inr deep) = absurd (deep.1 (subst (λ k. CanBeWritten k (prepared_of columns f)) (sym depth) (words-nest types said n words columns f short few means)))
 
 pub ruleset shown = (named-before-none, named-all, named-at, trees-all, types-all, words-fault, encoding-along)

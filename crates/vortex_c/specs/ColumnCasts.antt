@@ -4,7 +4,8 @@ use Rattle.arrow_columns.specs.Casts.{AreCastTo, IsFirstWithout}
 use Rattle.arrow_columns.specs.Columns.{IsIntegerColumn, integer_cells, with_start}
 use Rattle.arrow_columns.specs.Errors.{IsIntegerError}
 use Rattle.arrow_columns.specs.Integers.{width_of}
-use Rattle.arrow_columns.specs.Kinds.{integer_kind_at, kind_at}
+use Rattle.arrow_columns.specs.Columns.{kind_in}
+use Rattle.arrow_columns.specs.Kinds.{integer_kind_at}
 use Rattle.arrow_columns.specs.declared.columns.Column.{Column}
 use Rattle.arrow_columns.specs.declared.kinds.IntegerKind.{IntegerKind}
 use Rattle.arrow_columns.specs.declared.kinds.Kind.TheVariants.{Integer}
@@ -16,7 +17,7 @@ use Rattle.vortex_c.specs.declared.status.TheConstants.{NONE, BUFFER_TOO_SMALL, 
 
 -- the column is one of integers of this kind, and the code is that of the other kind
 pub record AreKinds (column : Column) (to : ℕ) (from into : IntegerKind) : Type 0 where
-  pub from_is : kind_at column.kind ≡ Some (Integer from)
+  pub from_is : kind_in column ≡ Some (Integer from)
   pub into_is : integer_kind_at to ≡ Some into
 
 -- the buffer begins with the integers of the column in the kind with this code: 0 for a null
@@ -39,7 +40,7 @@ pub record IsFrontCast (column : Column) (to count : ℕ) (buffer : List ℕ) : 
 -- why a column is not cast to a buffer of so many bytes: no two reasons hold at once
 abbrev pub IsCastRefusal : Column → ℕ → ℕ → CastRefusal → Type 0
 IsCastRefusal column to size NotAKind = integer_kind_at to ≡ None
-IsCastRefusal column to size NotIntegers = (integer_kind_at to ≢ None) × ((from : IntegerKind) → kind_at column.kind ≢ Some (Integer from))
+IsCastRefusal column to size NotIntegers = (integer_kind_at to ≢ None) × ((from : IntegerKind) → kind_in column ≢ Some (Integer from))
 IsCastRefusal column to size (Unreadable fault) = (from into : IntegerKind) × AreKinds column to from into × IsIntegerError from (with_start column) fault
 IsCastRefusal column to size TooSmall = (from into : IntegerKind) × AreKinds column to from into × IsIntegerColumn from (with_start column) × (size < column.length * width_of into)
 IsCastRefusal column to size (Without row) = (from into : IntegerKind) × AreKinds column to from into × IsIntegerColumn from (with_start column)

@@ -15,7 +15,7 @@ use Rattle.vortex_c.specs.declared.sql.NamedKind.{NamedKind}
 -- are; and so are the outcomes of zones.
 pub record AreOfWords (n : ℕ) (words : List ℕ) (named : List NamedKind) (bytes : List ℕ) (h : IsPreparedFrom n words named bytes) : Type 0 where
   pub read : (m : ℕ) → n ≤ m → (cause : FilterEncodingError) → IsUnread (encoding_depth m) bytes cause → cause ≡ OutOfMemory
-  pub columns : (m : ℕ) (columns : List Column) (count : ℕ) (buffer : List ℕ) → IsFilterMask m bytes columns count buffer → AreColumnsOf columns (types_of_kinds named) count
+  pub columns : (m : ℕ) (columns : List Column) (count : ℕ) (buffer : List ℕ) → IsFilterMask m bytes columns count buffer → AreColumnsOf h.filter columns (types_of_kinds named) count
   pub mask : (m : ℕ) (columns : List Column) (count : ℕ) (buffer : List ℕ) → IsFilterMask m bytes columns count buffer → IsMask (matching h.filter (cells_of_columns columns)) count buffer
   pub outcomes : (m : ℕ) (statistics offsets outcomes : List ℕ) → AreFilterOutcomes m bytes statistics offsets outcomes → AreOutcomes h.filter (types_of_kinds named) statistics offsets outcomes
 

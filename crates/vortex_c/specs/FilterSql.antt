@@ -1,8 +1,9 @@
 -- What callers are told of filters that are prepared from SQL's words.
-use Rattle.std.specs.Prelude.{◌≡◌, ◌≢◌, ◌⊎◌, ℕ, ◌+◌, ◌-◌, ◌*◌, ◌^◌, ◌<◌, min, List, length, map, slice_get, Some, None, MatchResult, Result, Vec, unwrap_or}
+use Rattle.std.specs.Prelude.{◌≡◌, ◌≢◌, ◌⊎◌, ℕ, ◌+◌, ◌-◌, ◌*◌, ◌^◌, ◌<◌, min, List, length, map, slice_get, Option, Some, None, MatchResult, Result, Vec, unwrap_or}
 use Rattle.std.specs.Global.{Global}
 use Rattle.std.specs.Str.{IsUtf8}
-use Rattle.arrow_columns.specs.Kinds.{kind_at}
+use Rattle.arrow_columns.specs.Kinds.{kind_with}
+use Rattle.arrow_columns.specs.declared.kinds.Kind.{Kind}
 use Rattle.column_cells.specs.Types.{type_at}
 use Rattle.filter_encoding.specs.Encoding.{CanBeWritten, HasEncoding, Prepared, encoding}
 use Rattle.vortex_dtype.specs.TypeTree.{TypeTree}
@@ -22,19 +23,23 @@ use Rattle.vortex_c.specs.declared.status.TheConstants.{BAD_FILTER, NO_MEMORY, N
 
 -- ---- columns by name and kind
 
+-- the kind of a column, by its codes
+abbrev pub kind_of_named : NamedKind → Option Kind
+kind_of_named column = kind_with column.kind column.precision column.scale
+
 -- a column by its name and its type; of no kind, that of nulls
 abbrev pub tree_of_kind : NamedKind → ColumnTree
-tree_of_kind column = record { name = column.name.now; typed = type_at (kind_at column.kind) }
+tree_of_kind column = record { name = column.name.now; typed = type_at (kind_of_named column) }
 
 abbrev pub trees_of_kinds : List NamedKind → List ColumnTree
 trees_of_kinds columns = map tree_of_kind columns
 
 abbrev pub types_of_kinds : List NamedKind → List TypeTree
-types_of_kinds columns = map (λ (column : NamedKind). type_at (kind_at column.kind)) columns
+types_of_kinds columns = map (λ (column : NamedKind). type_at (kind_of_named column)) columns
 
 -- the code is of a kind, and the name is UTF-8
 pub record IsNamed (column : NamedKind) : Type 0 where
-  pub kind : kind_at column.kind ≢ None
+  pub kind : kind_of_named column ≢ None
   pub name : IsUtf8 column.name.now
 
 -- the first columns are so
@@ -74,8 +79,8 @@ WritesEncoding n p r = MatchResult r (λ bytes. HasEncoding n p × (bytes.items 
 -- why a column at a place is not named: the first reason in this order
 abbrev pub IsColumnError : ℕ → NamedKind → SqlError → Type 0
 IsColumnError k column OutOfMemory = ⊥
-IsColumnError k column (NotAKind place) = (place ≡ k) × (kind_at column.kind ≡ None)
-IsColumnError k column (NameNotUtf8 place) = (place ≡ k) × (kind_at column.kind ≢ None) × ¬ (IsUtf8 column.name.now)
+IsColumnError k column (NotAKind place) = (place ≡ k) × (kind_of_named column ≡ None)
+IsColumnError k column (NameNotUtf8 place) = (place ≡ k) × (kind_of_named column ≢ None) × ¬ (IsUtf8 column.name.now)
 IsColumnError k column NotUtf8 = ⊥
 IsColumnError k column (NoFilter cause) = ⊥
 IsColumnError k column NoEncoding = ⊥

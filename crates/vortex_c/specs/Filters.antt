@@ -56,13 +56,13 @@ fault_of_encoding_fault column (NotAValue place) before = record { column = colu
 pub record IsFilterMask (n : ℕ) (bytes : List ℕ) (columns : List Column) (count : ℕ) (buffer : List ℕ) : Type 0 where
   pub filter : Prepared
   pub is_encoding : IsEncodingOf n bytes filter
-  pub are_columns : AreColumnsOf columns filter.types count
+  pub are_columns : AreColumnsOf filter.filter columns filter.types count
   pub mask : IsMask (matching filter.filter (cells_of_columns columns)) count buffer
 
 -- why there is no mask of so many rows in a buffer of so many bytes
 abbrev pub IsRowsError : ℕ → List ℕ → List Column → (count size : ℕ) → RowsError → Type 0
 IsRowsError n bytes columns count size (rows.Unread cause) = IsUnread n bytes cause
-IsRowsError n bytes columns count size (rows.NoMask cause) = (p : Prepared) × IsEncodingOf n bytes p × IsMaskError columns p.types count size cause
+IsRowsError n bytes columns count size (rows.NoMask cause) = (p : Prepared) × IsEncodingOf n bytes p × IsMaskError p.filter columns p.types count size cause
 
 abbrev pub status_of_mask : MaskError → ℕ
 status_of_mask mask.OutOfMemory = NO_MEMORY

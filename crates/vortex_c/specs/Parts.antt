@@ -1,19 +1,20 @@
 -- The parts of statistics, as callers are told them.
 use Rattle.std.specs.Prelude.{◌≡◌, ◌≤◌, ◌⊎◌, ℕ, Bool, true, false, List, [], length, Option, Some, None}
-use Rattle.arrow_columns.specs.Kinds.{kind_at}
+use Rattle.arrow_columns.specs.declared.formats.Format.TheVariants.{Decimal}
+use Rattle.arrow_columns.specs.declared.kinds.Kind.TheVariants.{Logical}
 use Rattle.arrow_columns.specs.declared.kinds.Kind.{Kind}
 use Rattle.column_cells.specs.Types.{type_of_kind}
 use Rattle.vortex_value.specs.Values.Content.{Content, null}
-use Rattle.statistics_bytes.specs.EncodingAnswers.{ReadsRight}
+use Rattle.named_statistics.specs.Named.{ReadsNamed}
 use Rattle.vortex_statistics.specs.Statistics.{Known, KnownBound}
 use Rattle.column_statistics.specs.Encodings.{IsEncodingAs, IsReadError}
 use Rattle.column_statistics.specs.Items.{IsItemOf}
 use Rattle.column_statistics.specs.declared.errors.ReadError.{ReadError}
-use Rattle.column_statistics.specs.declared.errors.ReadError.TheVariants.{BadBytes, OutOfMemory}
+use Rattle.column_statistics.specs.declared.errors.ReadError.TheVariants.{BadBytes, NotAValue, OutOfMemory}
 use Rattle.vortex_c.specs.Statistics.{SaysNoKind}
 use Rattle.vortex_c.specs.declared.fault.Fault.{Fault}
 use Rattle.vortex_c.specs.declared.parts.StatisticsParts.{StatisticsParts}
-use Rattle.vortex_c.specs.declared.status.TheConstants.{BAD_BYTES, NO_MEMORY}
+use Rattle.vortex_c.specs.declared.status.TheConstants.{BAD_BYTES, NOT_A_VALUE, NO_MEMORY}
 
 -- a count is told so: 0 if it is not known
 abbrev pub IsCountTold : Option ℕ → Bool → ℕ → Type 0
@@ -43,32 +44,39 @@ pub record AreParts (kind : Kind) (s : Known) (lower upper : List ℕ) (p : Stat
   pub lower_length : p.lower_length ≡ length lower
   pub upper_length : p.upper_length ≡ length upper
 
--- these are the parts of the statistics that have this encoding, of a column of the kind with this code; they are right for all
+-- these are the parts of the statistics that have this encoding, of a column of the kind that was found; they are right for all
 -- that the written ones were right for
-pub record ArePartsAt (code : ℕ) (bytes lower upper : List ℕ) (p : StatisticsParts) : Type 0 where
+pub record ArePartsAt (found : Option Kind) (bytes lower upper : List ℕ) (p : StatisticsParts) : Type 0 where
   pub kind : Kind
-  pub is_kind : kind_at code ≡ Some kind
+  pub is_kind : found ≡ Some kind
   pub statistics : Known
   pub is_encoding : IsEncodingAs (type_of_kind kind) bytes statistics
-  pub right : ReadsRight (type_of_kind kind) bytes statistics
+  pub right : ReadsNamed (type_of_kind kind) bytes statistics
   pub parts : AreParts kind statistics lower upper p
 
--- the buffer is long enough for a bound that these bytes say: it has 8 bytes, and as many as these
-abbrev pub SufficesFor : List ℕ → List ℕ → Type 0
-SufficesFor bytes buffer = (8 ≤ length buffer) × (length bytes ≤ length buffer)
+-- how many bytes hold any bound of the kind but strings and bytes
+abbrev pub room_of : Option Kind → ℕ
+room_of (Some (Logical (Decimal width precision scale))) = 16
+room_of _ = 8
+
+-- the buffer is long enough for a bound that these bytes say: it has 8 bytes, or 16 of decimals, and as many as these
+abbrev pub SufficesFor : Option Kind → List ℕ → List ℕ → Type 0
+SufficesFor found bytes buffer = (room_of found ≤ length buffer) × (length bytes ≤ length buffer)
 
 -- the status of bytes that are not read
 abbrev pub status_of_read : ReadError → ℕ
 status_of_read OutOfMemory = NO_MEMORY
 status_of_read (BadBytes place) = BAD_BYTES
+status_of_read NotAValue = NOT_A_VALUE
 
 -- where that is told to be, if it was there before
 abbrev pub fault_of_read : Fault → ReadError → Fault
 fault_of_read before OutOfMemory = before
 fault_of_read before (BadBytes place) = record { column = 0; place = place }
+fault_of_read before NotAValue = record { column = 0; place = 0 }
 
 -- the call with this status read nothing for such a reason, and told where
-abbrev pub SaysWhyNotRead : ℕ → List ℕ → Fault → Fault → ℕ → Type 0
-SaysWhyNotRead code bytes before after status = SaysNoKind code after status
-    ⊎ ((kind : Kind) × (reason : ReadError) × (kind_at code ≡ Some kind) × IsReadError (type_of_kind kind) bytes reason
+abbrev pub SaysWhyNotRead : Option Kind → List ℕ → Fault → Fault → ℕ → Type 0
+SaysWhyNotRead found bytes before after status = SaysNoKind found after status
+    ⊎ ((kind : Kind) × (reason : ReadError) × (found ≡ Some kind) × IsReadError kind bytes reason
     × (status ≡ status_of_read reason) × (after ≡ fault_of_read before reason))

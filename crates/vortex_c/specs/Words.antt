@@ -2,6 +2,7 @@
 pub use Rattle.std.specs.Option.{option_copied, option_map}
 pub use Rattle.arrow_columns.specs.Errors.{IsIntegerError}
 pub use Rattle.arrow_columns.specs.Integers.{width_of}
+pub use Rattle.arrow_columns.specs.Columns.{kind_in}
 pub use Rattle.arrow_columns.specs.Kinds.{integer_kind_at, kind_at}
 pub use Rattle.arrow_columns.specs.declared.kinds.Kind.TheVariants.{Integer}
 pub use Rattle.vortex_dtype.specs.TypeTree.{binary_type, utf8_type}
@@ -29,6 +30,8 @@ pub use Rattle.vortex_c.specs.EncodingAnswers.{AnswersEncoding, HasAnswer}
 pub use Rattle.vortex_c.specs.Integers.{IsCastOf, IsInteger, IsNotCast, number_in, ptype_at}
 pub use Rattle.vortex_c.specs.Parts.{AreParts, ArePartsAt, IsBoundTold, SaysWhyNotRead, SufficesFor, fault_of_read, status_of_read}
 pub use Rattle.vortex_c.specs.RowKeys.{AreAllKeys, all_keys_length, fault_of_table, status_of_table}
+pub use Rattle.column_items.specs.Codes.{kind_of_code}
+pub use Rattle.column_statistics.specs.Encodings.{HasValueIn, HaveValues}
 pub use Rattle.vortex_c.specs.Statistics.{IsMergedAt, SaysWhyNoEncoding, SaysWhyNotMerged, fault_of_encoding, fault_of_merge, status_of_encoding, status_of_merge}
 pub use Rattle.vortex_c.specs.UpperAnswers.{AnswersUpper}
 pub use Rattle.vortex_c.specs.Uppers.{bytes_of}

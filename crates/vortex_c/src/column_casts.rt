@@ -4,7 +4,7 @@ ghost use Rattle.std.specs.Prelude.{◌≡◌, ◌≢◌, ◌*◌, ◌≤◌, If
 ghost use Rattle.arrow_columns.specs.declared.kinds.IntegerKind.{IntegerKind as AnyKind};
 ghost use Rattle.vortex_c.specs.Words.{AreKinds, Integer, IsCastRefusal, IsColumnCast, IsFrontCast};
 ghost use Rattle.vortex_c.specs.Words.{IsIntegerError, IsLeft, SaysWhyNoCast, fault_of_cast, integer_kind_at};
-ghost use Rattle.vortex_c.specs.Words.{kind_at, status_of_cast, width_of, with_start};
+ghost use Rattle.vortex_c.specs.Words.{kind_in, status_of_cast, width_of, with_start};
 
 use crate::fault::{Fault, place_in_column, status_of_column};
 use crate::status::{BUFFER_TOO_SMALL, GIVEN, NONE, UNKNOWN_KIND};
@@ -147,7 +147,8 @@ fn prepare(column: Column, to: u8, size: usize) -> Result<Castable, CastRefusal>
     let Some(into) = IntegerKind::from_code(to) else {
         return Err(CastRefusal::NotAKind);
     };
-    let Some(Kind::Integer(from)) = Kind::from_code(column.kind) else {
+    let Some(Kind::Integer(from)) = Kind::with_code(column.kind, column.precision, column.scale)
+    else {
         return Err(CastRefusal::NotIntegers);
     };
     let rows = match integer_rows(from, column) {
@@ -162,7 +163,7 @@ fn prepare(column: Column, to: u8, size: usize) -> Result<Castable, CastRefusal>
 
 /// The rows of a column of integers.
 fn integer_rows(from: IntegerKind, column: Column) -> Result<IntegerRows, ColumnError>
-    requires { kind_at column.kind ≡ Some (Integer from) }
+    requires { kind_in column ≡ Some (Integer from) }
     ensures rows { IfOk result (λ rows. (rows.kind ≡ from) × (rows.column ≡ with_start column.entry)) }
     ensures fault { IfErr result (λ fault. IsIntegerError from (with_start column.entry) fault) }
 {

@@ -3,7 +3,9 @@
 ghost use Rattle.std.specs.Prelude.{◌≡◌, ◌≢◌};
 ghost use Rattle.vortex_c.specs.Words.{place_in_column, status_of_column};
 
-use crate::status::{BAD_OFFSETS, GIVEN, NOT_UTF8, TOO_MANY_ROWS, TOO_SHORT, UNKNOWN_KIND};
+use crate::status::{
+    BAD_OFFSETS, GIVEN, NOT_A_VALUE, NOT_UTF8, TOO_MANY_ROWS, TOO_SHORT, UNKNOWN_KIND,
+};
 use arrow_columns::{Buffer, ColumnError};
 
 /// Where a mistake is: which column, and which row, byte or buffer of it.
@@ -27,6 +29,7 @@ pub(crate) fn status_of_column(fault: ColumnError) -> u32
         ColumnError::TooShort(_) => TOO_SHORT,
         ColumnError::BadOffsets(_) => BAD_OFFSETS,
         ColumnError::NotUtf8(_) => NOT_UTF8,
+        ColumnError::NotAValue(_) => NOT_A_VALUE,
     }
 }
 
@@ -39,7 +42,8 @@ pub(crate) fn place_in_column(fault: ColumnError) -> usize
         ColumnError::TooShort(Buffer::Validity) => 0,
         ColumnError::TooShort(Buffer::Values) => 1,
         ColumnError::TooShort(Buffer::Offsets) => 2,
-        ColumnError::BadOffsets(row) | ColumnError::NotUtf8(row) => row,
+        ColumnError::BadOffsets(row) | ColumnError::NotUtf8(row) | ColumnError::NotAValue(row) =>
+            row,
     }
 }
 

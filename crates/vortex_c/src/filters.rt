@@ -37,8 +37,9 @@ pub(crate) enum ZonesError {
 
 /// Which of so many rows of columns match a prepared filter: a bit for each, from the least
 /// significant one on. The columns are those that it was prepared for, in their order. If it was
-/// prepared for none, each row has the same bit. Memory is asked for the filter, for the columns,
-/// and for strings and bytes above 22 bytes.
+/// prepared for none, each row has the same bit. A column that the filter does not name is not looked
+/// at, whatever its kind and its buffers are. Memory is asked for the filter, for the columns, and for
+/// strings and bytes above 22 bytes.
 ///
 /// `depth` is how deep the words might nest that the filter was prepared from: `2 * depth + 5`
 /// connectives may nest in the encoding.
@@ -50,7 +51,7 @@ pub(crate) enum ZonesError {
 /// - `WRONG_LENGTH`: there are not as many columns as the filter has, and `fault` has their number;
 ///   or a column has another number of rows.
 /// - `UNKNOWN_KIND`: the kind of a column is none, or with place 1 is not the filter's.
-/// - `TOO_MANY_ROWS`, `TOO_SHORT`, `BAD_OFFSETS`, `NOT_UTF8`: a column cannot be read.
+/// - `TOO_MANY_ROWS`, `TOO_SHORT`, `BAD_OFFSETS`, `NOT_UTF8`, `NOT_A_VALUE`: a column cannot be read.
 /// - `NO_MEMORY`: `fault` is not written, and the bits may say anything.
 #[unsafe(no_mangle)]
 pub extern "C" fn doqallin_filter_mask(

@@ -22,9 +22,9 @@ use std::alloc::Global;
 /// - `WRONG_LENGTH`: the options are not as many as the columns, and `fault` has the number of
 ///   columns; or a column has another number of rows than the first.
 /// - `BAD_OPTIONS`: a byte of options is above 3.
-/// - `UNKNOWN_KIND`, `TOO_MANY_ROWS`, `TOO_SHORT`, `BAD_OFFSETS`, `NOT_UTF8`: a column cannot be
-///   read.
-/// - `NO_MEMORY`: `fault` is not written.
+/// - `UNKNOWN_KIND`, `TOO_MANY_ROWS`, `TOO_SHORT`, `BAD_OFFSETS`, `NOT_UTF8`, `NOT_A_VALUE`: a column
+///   cannot be read.
+/// - `NO_MEMORY`: only if each column and its options are right. `fault` is not written.
 #[unsafe(no_mangle)]
 #[tactic(auto, using(crate::proofs::KeySteps::shown))]
 pub extern "C" fn doqallin_row_keys(

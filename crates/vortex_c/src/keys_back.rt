@@ -1,15 +1,17 @@
 //! The columns of the keys of rows.
 
-ghost use Rattle.std.specs.Prelude.{◌≡◌, ◌≢◌};
+ghost use Rattle.std.specs.Prelude.{◌≡◌, ◌≢◌, map};
+ghost use Rattle.vortex_c.specs.Words.{kind_at, kind_of_code};
 ghost use Rattle.vortex_c.specs.KeyWords.{AreColumnsOfKeys, AreCountsOfKeys, SaysWhyNoColumns};
 ghost use Rattle.vortex_c.specs.KeyWords.{fault_of_keys, status_of_keys};
 
 use crate::fault::{Fault, at};
 use crate::status::{
-    BAD_BYTES, BAD_OFFSETS, BAD_OPTIONS, BUFFER_TOO_SMALL, GIVEN, NO_MEMORY, UNKNOWN_KIND,
-    WRONG_LENGTH,
+    BAD_BYTES, BAD_OFFSETS, BAD_OPTIONS, BUFFER_TOO_SMALL, GIVEN, NO_MEMORY, NOT_A_VALUE,
+    UNKNOWN_KIND, WRONG_LENGTH,
 };
-use column_keys::{ColumnBuffers, KeysError, columns_of_keys};
+use column_items::KindCode;
+use column_keys::{ColumnBuffers, KeysError, columns_of_keys, columns_of_typed_keys};
 use std::alloc::Global;
 
 /// The columns of the rows whose keys these are: of each a bit for each row, 0 for a null, and the
@@ -27,7 +29,9 @@ use std::alloc::Global;
 /// - `UNKNOWN_KIND`: a code is of no kind.
 /// - `BAD_OFFSETS`: the offsets of the key `fault.place` go down, or past the end.
 /// - `BAD_BYTES`: `fault.place` is the first of all bytes that no key of a row has there.
-/// - `NO_MEMORY`: `fault` is not written.
+/// - `NOT_A_VALUE`: the key `fault.place` has no value of the logical type of the column
+///   `fault.column`.
+/// - `NO_MEMORY`: only if each kind and its options are right. `fault` is not written.
 ///
 /// Under each status but `GIVEN` the buffers stay as they were, and the counts too, but for
 /// `BUFFER_TOO_SMALL`.
@@ -42,17 +46,45 @@ pub extern "C" fn doqallin_columns_of_row_keys(
     fault: &mut Fault,
 ) -> u32
     ensures columns { result ≡ GIVEN
-        → AreColumnsOfKeys kinds.now options.now bytes.now offsets.now columns.old columns.new }
+        → AreColumnsOfKeys (map kind_at kinds.now) options.now bytes.now offsets.now columns.old columns.new }
     ensures counted { result ≡ BUFFER_TOO_SMALL
-        → AreCountsOfKeys kinds.now options.now bytes.now offsets.now columns.old columns.new }
-    ensures refused { result ≢ GIVEN → SaysWhyNoColumns kinds.now options.now bytes.now offsets.now
-        columns.old fault.old fault.new result }
+        → AreCountsOfKeys (map kind_at kinds.now) options.now bytes.now offsets.now columns.old columns.new }
+    ensures refused { result ≢ GIVEN → SaysWhyNoColumns (map kind_at kinds.now) options.now bytes.now
+        offsets.now columns.old fault.old fault.new result }
 
     // What is not said to be written stays.
     ensures kept { result ≢ GIVEN → result ≢ BUFFER_TOO_SMALL → columns.new ≡ columns.old }
     ensures kept_fault { result ≡ GIVEN → fault.new ≡ fault.old }
 {
     match columns_of_keys(alloc, kinds, options, offsets, bytes, columns) {
+        Ok(()) => GIVEN,
+        Err(refusal) => tell(refusal, kinds.len(), fault),
+    }
+}
+
+/// The same of any kinds, decimals too.
+#[unsafe(no_mangle)]
+pub extern "C" fn doqallin_columns_of_typed_keys(
+    alloc: Global,
+    kinds: &[KindCode],
+    options: &[u8],
+    offsets: &[u64],
+    bytes: &[u8],
+    columns: &mut [ColumnBuffers],
+    fault: &mut Fault,
+) -> u32
+    ensures columns { result ≡ GIVEN
+        → AreColumnsOfKeys (map kind_of_code kinds.now) options.now bytes.now offsets.now columns.old columns.new }
+    ensures counted { result ≡ BUFFER_TOO_SMALL
+        → AreCountsOfKeys (map kind_of_code kinds.now) options.now bytes.now offsets.now columns.old columns.new }
+    ensures refused { result ≢ GIVEN → SaysWhyNoColumns (map kind_of_code kinds.now) options.now bytes.now
+        offsets.now columns.old fault.old fault.new result }
+
+    // What is not said to be written stays.
+    ensures kept { result ≢ GIVEN → result ≢ BUFFER_TOO_SMALL → columns.new ≡ columns.old }
+    ensures kept_fault { result ≡ GIVEN → fault.new ≡ fault.old }
+{
+    match columns_of_typed_keys(alloc, kinds, options, offsets, bytes, columns) {
         Ok(()) => GIVEN,
         Err(refusal) => tell(refusal, kinds.len(), fault),
     }
@@ -72,5 +104,6 @@ fn tell(refusal: KeysError, kinds: usize, fault: &mut Fault) -> u32
         KeysError::UnknownKind { column } => at(column, 0, fault, UNKNOWN_KIND),
         KeysError::BadOffsets { row } => at(0, row, fault, BAD_OFFSETS),
         KeysError::BadBytes { offset } => at(0, offset, fault, BAD_BYTES),
+        KeysError::NotAValue { column, row } => at(column, row, fault, NOT_A_VALUE),
     }
 }

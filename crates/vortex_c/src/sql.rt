@@ -6,9 +6,9 @@ ghost use Rattle.vortex_c.specs.FilterWords.{IsColumnsError, IsNamed, IsPrepared
 ghost use Rattle.vortex_c.specs.FilterWords.{IsTextError, IsUnfit, encoding_depth, literals_of};
 ghost use Rattle.vortex_c.specs.FilterWords.{OutOfMemory, SaysWhyNotPrepared, WritesEncoding, code_of_expected};
 ghost use Rattle.vortex_c.specs.FilterWords.{code_of_mistake, column_tree, column_trees, fault_of_words, formula};
-ghost use Rattle.vortex_c.specs.FilterWords.{kind_at, mistake_of_sql, parts_of, place_of_mistake, prepared_of};
+ghost use Rattle.vortex_c.specs.FilterWords.{kind_of_named, mistake_of_sql, parts_of, place_of_mistake, prepared_of};
 ghost use Rattle.vortex_c.specs.FilterWords.{status_of_sql, tree_of_kind, trees_of_kinds, type_at, type_of};
-ghost use Rattle.vortex_c.specs.FilterWords.{types_of_kinds};
+ghost use Rattle.vortex_c.specs.FilterWords.{type_of_kind, types_of_kinds};
 
 use crate::bounds::give;
 use crate::depth::encoding_depth;
@@ -17,6 +17,8 @@ use arrow_columns::Kind;
 use column_cells::dtype_of;
 use filter_encoding::{FilterEncodingError, append_filter};
 use filter_sql::{Column as FilterColumn, Expected, ParseError, parse_within};
+use logical_scalars::laws::shapes_say_types;
+use logical_types::laws::shapes_say_words;
 use std::alloc::{AllocError, AllocFailed, Global};
 use std::str;
 use vortex_dtype::DType;
@@ -30,6 +32,10 @@ pub struct NamedKind<'a> {
     pub name: &'a [u8],
     /// The code of its kind.
     pub kind: u8,
+    /// Of decimals: how many digits a number has at most. Else it is not read.
+    pub precision: u8,
+    /// Of decimals: how many of them stand behind the point. Else it is not read.
+    pub scale: u8,
 }
 
 /// Where words are no filter, and why.
@@ -129,6 +135,8 @@ fn prepare(
     // That 64 bits count both is all that the proof takes of them.
     let _ = byte_count(words);
     let _ = column_count(columns);
+    shapes_say_types();
+    shapes_say_words();
     let text = text_of(words, columns)?;
     let filter = filter_of(alloc, text, columns, depth)?;
     encoding_of(alloc, &filter, columns, encoding_depth(depth))
@@ -221,12 +229,12 @@ fn check_columns(columns: &[NamedKind]) -> Result<(), SqlError>
 
 /// The kind and the name of the column at a place.
 fn kind_and_name<'a>(place: usize, column: NamedKind<'a>) -> Result<(Kind, &'a str), SqlError>
-    ensures kind { IfOk result (λ found. kind_at column.entry.kind ≡ Some found.0) }
+    ensures kind { IfOk result (λ found. kind_of_named column.entry ≡ Some found.0) }
     ensures name { IfOk result (λ found. found.1.now ≡ column.entry.name.now) }
     ensures sound { OnOk result (IsNamed column.entry) }
     ensures refused { IfErr result (IsColumnError place column.entry) }
 {
-    let Some(kind) = Kind::from_code(column.kind) else {
+    let Some(kind) = Kind::with_code(column.kind, column.precision, column.scale) else {
         return Err(SqlError::NotAKind(place));
     };
     let Ok(name) = str::from_utf8(column.name) else {
@@ -260,7 +268,7 @@ fn named_column(alloc: Global, place: usize, column: NamedKind) -> Result<Filter
     let name = String::from_str(alloc, name)?;
     Ok(FilterColumn {
         name,
-        dtype: dtype_of(kind),
+        dtype: dtype_of_kind(alloc, kind)?,
     })
 }
 
@@ -305,18 +313,31 @@ fn types_of(alloc: Global, columns: &[NamedKind]) -> Result<Vec<DType>, SqlError
 {
     let mut types = Vec::with_capacity(alloc, columns.len())?;
     for column in columns {
-        types.push(dtype_at(column.kind))?;
+        let dtype = dtype_at(alloc, column)?;
+        types.push(dtype)?;
     }
     Ok(types)
 }
 
-/// The type of the kind with this code; of no kind, that of nulls.
-fn dtype_at(code: u8) -> DType
-    ensures { type_of result ≡ type_at (kind_at code) }
+/// The type of a column; of no kind, that of nulls.
+fn dtype_at(alloc: Global, column: &NamedKind) -> Result<DType, SqlError>
+    ensures typed { IfOk result (λ dtype. type_of dtype ≡ type_at (kind_of_named column.now)) }
+    ensures refused { IfErr result (λ refusal. refusal ≡ OutOfMemory) }
 {
-    match Kind::from_code(code) {
-        Some(kind) => dtype_of(kind),
-        None => DType::Null,
+    match Kind::with_code(column.kind, column.precision, column.scale) {
+        Some(kind) => dtype_of_kind(alloc, kind),
+        None => Ok(DType::Null),
+    }
+}
+
+/// The type of a kind.
+fn dtype_of_kind(alloc: Global, kind: Kind) -> Result<DType, SqlError>
+    ensures typed { IfOk result (λ dtype. type_of dtype ≡ type_of_kind kind) }
+    ensures refused { IfErr result (λ refusal. refusal ≡ OutOfMemory) }
+{
+    match dtype_of(alloc, kind) {
+        Ok(dtype) => Ok(dtype),
+        Err(_) => Err(SqlError::OutOfMemory),
     }
 }
 

@@ -41,3 +41,6 @@ pub const WRONG_LENGTH: u32 = 12;
 
 /// A byte stands for no options.
 pub const BAD_OPTIONS: u32 = 13;
+
+/// A number is of no value of the column's logical type.
+pub const NOT_A_VALUE: u32 = 14;

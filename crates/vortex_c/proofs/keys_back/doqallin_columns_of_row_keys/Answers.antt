@@ -1,10 +1,12 @@
 -- Why there are no columns.
 use Rattle.std.proofs.Common.{◌∙◌, sym}
-use Rattle.vortex_c.proofs.KeyBackSteps.{not-small, only-small}
+use Rattle.arrow_columns.specs.Kinds.{kind_at}
+use Rattle.vortex_c.proofs.KeyBackSteps.{not-small, only-small, why-none}
 use Rattle.vortex_c.proofs.keys_back.doqallin_columns_of_row_keys.Goals as goal
 
 pub returns-in-Err-clause-refused : goal.returns-in-Err-clause-refused
-returns-in-Err-clause-refused c = λ _. (c.in-Err.refusal, c.in-Err.ensures.refused, c.tell.ensures.status, c.tell.ensures.fault)
+returns-in-Err-clause-refused c = λ _.
+    why-none kind_at c.args.kinds.now c.args.options.now c.args.bytes.now c.args.offsets.now c.args.columns.now c.args.fault.now c.tell.new.fault c.tell.result c.in-Err.refusal c.in-Err.ensures.refused c.tell.ensures.status c.tell.ensures.fault
 
 pub returns-in-Err-clause-counted : goal.returns-in-Err-clause-counted
 returns-in-Err-clause-counted c = λ h. c.in-Err.ensures.counted (only-small c.in-Err.refusal (sym c.tell.ensures.status ∙ h))

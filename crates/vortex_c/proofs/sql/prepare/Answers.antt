@@ -11,7 +11,7 @@ returns-clause-prepared c =
 pub returns-clause-refused : goal.returns-clause-refused
 returns-clause-refused c =
     encoding-fault c.args.depth c.encoding_depth.result c.args.words.now c.in_ok-text.text.now c.args.columns.now (formula c.in_ok-filter.filter) c.encoding_depth.ensures c.in_ok-text.ensures.named c.in_ok-text.ensures.text c.in_ok-filter.ensures.read
-    (omega (arith, c.byte_count.ensures, c.byte_count.type_inv)) (omega (arith, c.column_count.ensures, c.column_count.type_inv)) _ c.encoding_of.ensures
+    c.shapes_say_types.ensures.says c.shapes_say_words.ensures (omega (arith, c.byte_count.ensures, c.byte_count.type_inv)) (omega (arith, c.column_count.ensures, c.column_count.type_inv)) _ c.encoding_of.ensures
 
 pub returns-in_err-text-clause-refused : goal.returns-in_err-text-clause-refused
 returns-in_err-text-clause-refused c = unfit-refused c.args.depth c.args.words.now c.args.columns.now _ _ c.from_residual.ensures c.in_err-text.ensures.refused
