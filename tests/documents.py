@@ -13,7 +13,7 @@ ELSEWHERE = set(
     CoercePValue struct_unchecked unwrap_or_else tidy plant only incremental Proof
     my_crate new1 price stock Ibindings Lbindings WHAT_GOES_WRONG""".split()
 )
-SMALL = "zero one two three four five six seven eight nine ten eleven twelve thirteen fourteen fifteen sixteen".split()
+SMALL = "zero one two three four five six seven eight nine ten eleven twelve thirteen fourteen fifteen sixteen seventeen".split()
 NUMBERS = {**{word: at for at, word in enumerate(SMALL)}, "forty": 40, "a thousand": 1000}
 texts = {}
 
@@ -281,11 +281,13 @@ def of_limits():
     records, cut = re.findall(r'default_value\("(\d+)"\)', read("crates/zone_map/src/commands.rt"))
     stacks = re.findall(r", ([\d.]+)\)", line_after("tests/bindings", "CALL_STACKS = "))
     statuses = numbers_in(read("crates/vortex_c/src/status.rt"), r"pub const ([A-Z]\w+): u32 = (\d+);")
+    first, kinds = re.search(r"enum \{\s+(DOQALLIN_F32 = (\d+),[^}]*)\}", read("bindings/c/doqallin.h")).group(2, 1)
     rows = sources("rows").count("\n")
     bits = [int(bit) for bit in re.findall(r"value_if\(outcomes\.\w+, (\d)\)", read("crates/column_filters/src/zones.rt"))]
     ends = re.findall(r"^(?:too_large|no_answer|no_toolchain)=(\d+)", read("tools/run_program"), re.MULTILINE)
     return [
         ("CHANGELOG.md", "with the statuses 7 to {}", [max(statuses.values())]),
+        ("CHANGELOG.md", "C has the kinds {} to {}", [int(first), int(first) + kinds.count("DOQALLIN_") - 1]),
         ("CHANGELOG.md", "nests more than {} deep answers `TooDeep`", [lines]),
         ("CONTRIBUTING.md", "some {} lines", [round(rows, -2)]),
         ("docs/PYTHON.md", "if more than {} brackets nest", [lines]),
@@ -377,12 +379,28 @@ def filter_bytes():
 
 def examples():
     """The encodings in blocks of STATISTICS.md and FILTER_ENCODING.md are those of theorems in specs/Examples."""
-    for page, crate in [("docs/STATISTICS.md", "statistics_bytes"), ("docs/FILTER_ENCODING.md", "filter_encoding")]:
-        theorems = " ".join(read(f"crates/{crate}/specs/Examples.antt").split())
+    crates_of = {"docs/STATISTICS.md": ["statistics_bytes", "named_statistics"], "docs/FILTER_ENCODING.md": ["filter_encoding"]}
+    for page, crates_of_page in crates_of.items():
+        theorems = " ".join(" ".join(read(f"crates/{crate}/specs/Examples.antt") for crate in crates_of_page).split())
         found = re.findall(r"^```\n([0-9a-f ]+)\n```$", read(page), re.MULTILINE)
         yield found, f"{page}: no block is an encoding"
         for block in found:
             yield " ∷ ".join(map(str, bytes.fromhex(block))) + " ∷ []" in theorems, f"{page}: no theorem has {block}"
+
+
+def named_types():
+    """The logical types in the table of STATISTICS.md have the bytes that the sources give to their ids."""
+    ids = re.findall(r'id == "\w+\.(\w+)" \{\s+(\d+)', read("crates/named_statistics/src/heads.rt"))
+    row = re.search(r"\| the type: (.*) \|\n", section("docs/STATISTICS.md", "Logical types"))[1]
+    is_right = [(name, byte) for byte, name in re.findall(r"(\d+) `?(\w+)", row)] == ids
+    yield is_right, f"docs/STATISTICS.md: the bytes of logical types are {ids}"
+
+
+def statuses():
+    """Each status of C is in the table of RUST_AND_C.md."""
+    said = set(re.findall(r"`([A-Z]\w+)`", section("docs/RUST_AND_C.md", "What a call reports")))
+    lost = set(re.findall(r"pub const ([A-Z]\w+): u32", read("crates/vortex_c/src/status.rt"))) - said
+    yield not lost, f"docs/RUST_AND_C.md: the table lacks {' '.join(sorted(lost))}"
 
 
 def versions():
@@ -402,4 +420,4 @@ def lengths():
 
 
 CHECKS = [names, calls, links, printed_claims, tables, blocks, kit_crates, crates, numbers, quotients]
-CHECKS += [first_bytes, filter_bytes, examples, versions, lengths]
+CHECKS += [first_bytes, filter_bytes, named_types, statuses, examples, versions, lengths]

@@ -8,7 +8,7 @@ use Rattle.arrow_columns.specs.Columns.{rows_in}
 use Rattle.arrow_columns.specs.declared.columns.Column.{Column}
 use Rattle.column_cells.specs.Contents.{contents_of_column}
 use Rattle.column_cells.specs.Types.{type_of_column}
-use Rattle.column_filters.specs.Tables.{AreColumnsOf, cell_of_column, cells_of_columns}
+use Rattle.column_filters.specs.Tables.{cell_of_column, cells_of_columns}
 use Rattle.column_filters.specs.Zones.{piece_at}
 use Rattle.column_statistics.specs.Cells.{cells_of_column, typed_as}
 use Rattle.column_statistics.specs.Laws.{AreRightBytes}
@@ -17,7 +17,7 @@ use Rattle.vortex_dtype.specs.TypeTree.{TypeTree, null_type}
 use Rattle.vortex_filter.specs.Formula.{cell_at}
 use Rattle.vortex_value.specs.Values.Content.{Content, null}
 use Rattle.filter_pruning.specs.Pruning.{column}
-use Rattle.scalar_tests.specs.Pieces.{ArePiecesOf, AreWrittenRight}
+use Rattle.scalar_tests.specs.Pieces.{AreEven, ArePiecesOf, AreWrittenRight}
 
 -- so many numbers, from k on
 abbrev numbers_from : ℕ → ℕ → List ℕ
@@ -74,12 +74,12 @@ among_rows columns row within =
       get_or-map (cells_of_columns columns) (numbers_from 0 n) row row ∙ ap (cells_of_columns columns) (numbers_at 0 n row row within ∙ first),
     )
 
-pub rows_right : (columns : List Column) (bytes offsets : List ℕ) (p : ℕ) → AreColumnsOf columns (map type_of_column columns) (rows_in columns) → ArePiecesOf columns bytes offsets p → AreWrittenRight (map type_of_column columns) bytes offsets p (all_rows columns)
-rows_right columns bytes offsets p sound pieces k within =
+pub rows_right : (columns : List Column) (bytes offsets : List ℕ) (p : ℕ) → AreEven columns → ArePiecesOf columns bytes offsets p → AreWrittenRight (map type_of_column columns) bytes offsets p (all_rows columns)
+rows_right columns bytes offsets p even pieces k within =
     let inside : k < length columns = omega (arith, within, length-map columns type_of_column) in
     let at = there_is columns k inside in
     let c : Column = at.0 in
     let typed : get_or (map type_of_column columns) k null_type ≡ type_of_column c = get_or_from_slice_get (map type_of_column columns) k (type_of_column c) null_type (mapped_at type_of_column columns k c at.1) in
-    let cells : column k (all_rows columns) ≡ cells_of_column c = column_cells columns k c at.1 (sound.sound k c inside at.1).even in
+    let cells : column k (all_rows columns) ≡ cells_of_column c = column_cells columns k c at.1 (even k c at.1).even in
     subst (λ (t : TypeTree). AreRightBytes t (piece_at bytes offsets (p + k)) (column k (all_rows columns))) (sym typed)
     (subst (AreRightBytes (type_of_column c) (piece_at bytes offsets (p + k))) (sym cells) (pieces k c at.1))

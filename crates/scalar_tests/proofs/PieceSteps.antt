@@ -2,7 +2,7 @@
 use Rattle.std.proofs.Common.{◌≡◌, ◌≢◌, ◌++◌, ◌+◌, ◌∙◌, ℕ, zero, suc, List, [], ◌∷◌, Bool, true, false, not, Contains, Some, arith, ap, get_or, inr, map, refl, subst, sym}
 use Rattle.std.proofs.Math.ListN.{get_or-map}
 use Rattle.std.proofs.lemmas.List.{length-map}
-use Rattle.arrow_columns.specs.Kinds.{kind_at}
+use Rattle.arrow_columns.specs.Columns.{kind_in}
 use Rattle.arrow_columns.specs.declared.columns.Column.{Column}
 use Rattle.arrow_columns.specs.declared.kinds.Kind.{Kind}
 use Rattle.column_cells.specs.Types.{type_at, type_of_kind}
@@ -10,7 +10,7 @@ use Rattle.column_filters.specs.Zones.{ArePiecesRight, piece_at}
 use Rattle.column_statistics.specs.Cells.{cells_of_column}
 use Rattle.column_statistics.specs.Encodings.{IsColumnEncoding, IsEncodingAs, IsMergedEncoding}
 use Rattle.column_statistics.specs.Laws.{AreRightBytes, EncodingsStayRight}
-use Rattle.statistics_bytes.specs.Pieces.{Says}
+use Rattle.named_statistics.specs.Named.{SaysNamed}
 use Rattle.vortex_cells.specs.Cells.{Cell}
 use Rattle.vortex_dtype.specs.TypeTree.{TypeTree, null_type}
 use Rattle.vortex_filter.specs.Formula.{Formula, truth}
@@ -21,10 +21,10 @@ use Rattle.scalar_tests.specs.Pieces.{AreWrittenRight}
 
 -- ---- what is read is right
 
-right_of : EncodingsStayRight → (kind : Kind) (c : Column) (n : ℕ) (bytes : List ℕ) → kind_at c.kind ≡ Some kind → IsColumnEncoding c n bytes → AreRightBytes (type_of_kind kind) bytes (cells_of_column c)
+right_of : EncodingsStayRight → (kind : Kind) (c : Column) (n : ℕ) (bytes : List ℕ) → kind_in c ≡ Some kind → IsColumnEncoding c n bytes → AreRightBytes (type_of_kind kind) bytes (cells_of_column c)
 right_of law kind c n bytes is h = subst (λ t. AreRightBytes t bytes (cells_of_column c)) (ap type_at is) (law.written c n bytes h)
 
-pub both_right : EncodingsStayRight → (kind : Kind) (first second : Column) (n : ℕ) (one other both : List ℕ) (s : Known) → kind_at first.kind ≡ Some kind → kind_at second.kind ≡ Some kind
+pub both_right : EncodingsStayRight → (kind : Kind) (first second : Column) (n : ℕ) (one other both : List ℕ) (s : Known) → kind_in first ≡ Some kind → kind_in second ≡ Some kind
     → IsColumnEncoding first n one → IsColumnEncoding second n other → IsMergedEncoding (type_of_kind kind) one other both → IsEncodingAs (type_of_kind kind) both s
     → AreRight s (cells_of_column first ++ cells_of_column second)
 both_right law kind first second n one other both s f g h k merged is =
@@ -40,7 +40,7 @@ pub skipped_no : (b : Bool) → not b ≡ true → b ≡ false
 skipped_no true e = absurd cc
 skipped_no false e = refl
 
-said : (t : TypeTree) (bytes : List ℕ) (s : Known) → bytes ≢ [] → Says t bytes s → IsEncodingAs t bytes s
+said : (t : TypeTree) (bytes : List ℕ) (s : Known) → bytes ≢ [] → SaysNamed t bytes s → IsEncodingAs t bytes s
 said t [] s some h = absurd (some refl)
 said t (b ∷ bs) s some h = record { of_type = h.0; is = h.1 }
 

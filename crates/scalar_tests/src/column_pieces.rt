@@ -2,7 +2,7 @@
 //! filter is asked whether it can match a cell.
 
 ghost use Rattle.std.specs.Prelude.{◌≡◌, ◌++◌, [], ◌∷◌, Contains, IfSome, Some, true};
-ghost use Rattle.arrow_columns.specs.Kinds.{kind_at};
+ghost use Rattle.arrow_columns.specs.Columns.{kind_in};
 ghost use Rattle.column_cells.specs.Types.{type_of_kind};
 ghost use Rattle.column_statistics.specs.Cells.{HasBoundsIn, cells_of_column};
 ghost use Rattle.vortex_cells.specs.Cells.{Cell};
@@ -28,8 +28,8 @@ pub fn statistics_of_pieces(
     second: Column,
     limit: usize,
 ) -> Option<ColumnStatistics>
-    requires first { kind_at first.kind ≡ Some kind }
-    requires second { kind_at second.kind ≡ Some kind }
+    requires first { kind_in first ≡ Some kind }
+    requires second { kind_in second ≡ Some kind }
     ensures right { IfSome result (λ s. AreRight (known s)
         (cells_of_column first.entry ++ cells_of_column second.entry)) }
     ensures typed { IfSome result (HasBoundsIn (type_of_kind kind)) }
@@ -59,8 +59,8 @@ pub fn can_skip_pieces(
     second: Column,
     limit: usize,
 ) -> Option<bool>
-    requires first { kind_at first.kind ≡ Some kind }
-    requires second { kind_at second.kind ≡ Some kind }
+    requires first { kind_in first ≡ Some kind }
+    requires second { kind_in second ≡ Some kind }
     ensures { IfSome result (λ skip. skip ≡ true → (x : Cell)
         → Contains (cells_of_column first.entry ++ cells_of_column second.entry) x
         → ¬ (truth (formula filter.now) (x ∷ []) ≡ True)) }

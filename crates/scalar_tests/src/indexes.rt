@@ -1,6 +1,6 @@
 //! An index that is kept as bytes, and one that is searched by.
 
-ghost use Rattle.std.specs.Prelude.{◌≡◌, ◌++◌, ℕ, List, Some, IfOk, length, map, true};
+ghost use Rattle.std.specs.Prelude.{◌≡◌, ◌++◌, ℕ, List, Some, IfOk, length, true};
 ghost use Rattle.std.specs.Io.KnownBytes.{Appends};
 ghost use Rattle.vortex_filter.specs.Formula.{formula};
 ghost use Rattle.zone_index.specs.Sinks.{written_of};

@@ -31,6 +31,8 @@ pub mod patterns;
 pub mod places;
 pub mod prepared;
 #[cfg(test)]
+mod rare_calls;
+#[cfg(test)]
 mod readme;
 pub mod records;
 pub mod round_trips;
@@ -39,6 +41,7 @@ pub mod rust_values;
 mod sizes;
 pub mod skipped_zones;
 pub mod statistics_laws;
+pub mod statistics_names;
 pub mod stored_floats;
 #[cfg(test)]
 mod streams;

@@ -8,9 +8,9 @@ ghost use Rattle.vortex_dtype.specs.TypeTree.{TypeTree};
 ghost use Rattle.vortex_cells.specs.Cells.{Cell};
 ghost use Rattle.vortex_filter.specs.Formula.{Formula, is_match};
 ghost use Rattle.column_filters.specs.Masks.{matching};
-ghost use Rattle.column_filters.specs.Tables.{AreColumnsOf, cells_of_columns};
+ghost use Rattle.column_filters.specs.Tables.{cells_of_columns};
 ghost use Rattle.column_filters.specs.Zones.{ArePiecesRight, IsOutcome};
-ghost use Rattle.scalar_tests.specs.Pieces.{ArePiecesOf, AreWrittenRight};
+ghost use Rattle.scalar_tests.specs.Pieces.{AreEven, ArePiecesOf, AreWrittenRight};
 
 use column_filters::laws::outcomes_cover_rows;
 use column_statistics::laws::encodings_stay_right;
@@ -43,8 +43,7 @@ pub fn can_skip_written(byte: u8) -> bool
 /// none of their rows: the mask of the columns has no bit.
 pub fn can_skip_columns(byte: u8) -> bool
     ensures { (f : Formula) (columns : List Column) (bytes offsets : List ℕ) (p : ℕ)
-        → AreColumnsOf columns (map type_of_column columns) (rows_in columns)
-        → ArePiecesOf columns bytes offsets p
+        → AreEven columns → ArePiecesOf columns bytes offsets p
         → IsOutcome f (map type_of_column columns) bytes offsets p byte
         → (row : ℕ) → row < rows_in columns → result ≡ true
         → matching f (cells_of_columns columns) row ≡ false }

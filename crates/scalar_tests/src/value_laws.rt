@@ -4,7 +4,7 @@
 ghost use Rattle.std.specs.Prelude.{[], ◌↔◌, ◌≡◌, IfOk, IsTrue, Some, fold};
 ghost use Rattle.scalar_tests.specs.Words.{EqualContents, HasNoTyped, IsMadeOf, IsValid, Same, breaches, capped};
 ghost use Rattle.scalar_tests.specs.Words.{content, is_valid, no_contents, ptype_in, scalar_content, scalar_raw};
-ghost use Rattle.scalar_tests.specs.Words.{scalar_type, sequence, size_of, type_of, typed_feed, value_tree};
+ghost use Rattle.scalar_tests.specs.Words.{scalar_type, sequence, size_of, typed_feed, value_tree};
 
 use std::alloc::Global;
 use std::hash::{Hash, Hasher};

@@ -6,5 +6,5 @@ use Rattle.scalar_tests.proofs.ColumnRows.{all_rows, among_rows, rows_right}
 use Rattle.scalar_tests.proofs.skipped_zones.can_skip_columns.Goals as goal
 
 pub returns : goal.returns
-returns c = λ f columns bytes offsets p sound pieces is row within skipped.
-    c.can_skip_written.ensures f (map type_of_column columns) bytes offsets p is (all_rows columns) (rows_right columns bytes offsets p sound pieces) (cells_of_columns columns row) (among_rows columns row within) skipped
+returns c = λ f columns bytes offsets p even pieces is row within skipped.
+    c.can_skip_written.ensures f (map type_of_column columns) bytes offsets p is (all_rows columns) (rows_right columns bytes offsets p even pieces) (cells_of_columns columns row) (among_rows columns row within) skipped
