@@ -21,6 +21,7 @@ def literal(value: object) -> str:
     Raises NotAValue of a decimal that is no number.
 
     >>> from datetime import date
+    >>> from decimal import Decimal
     >>> from doqallin import Filter
     >>> literal("O'Hara"), literal(1.5), literal(date(2026, 3, 1)), literal(float("nan"))
     ("'O''Hara'", '1.5', "'2026-03-01'", "'NaN'")
