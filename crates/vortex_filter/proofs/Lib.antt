@@ -13,6 +13,7 @@ pub mod LogicalValueLaws
 pub mod Loops
 pub mod MakeSteps
 pub mod MemorySteps
+pub mod NamedLaws
 pub mod PositionLaws
 pub mod PrefixSteps
 pub mod StandingLaws

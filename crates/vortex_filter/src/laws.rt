@@ -5,6 +5,7 @@
 
 ghost use Rattle.vortex_filter.specs.FilterLiterals.{FormulasSayLiterals};
 ghost use Rattle.vortex_filter.specs.FitLaws.{FittingComparesContents, UnknownForNulls, UnknownWithoutOrder};
+ghost use Rattle.vortex_filter.specs.Named.{NamedColumnsDecide};
 ghost use Rattle.vortex_filter.specs.Positions.{ComparisonsStand, NullsAreUnknown};
 
 use vortex_dtype::laws::nullable_is_the_same;
@@ -39,4 +40,9 @@ pub fn formulas_say_literals()
 pub fn comparisons_stand()
     ensures values { ComparisonsStand }
     ensures nulls { NullsAreUnknown }
+{}
+
+/// Rows that agree in the columns that a filter names have the same truth of it.
+pub fn named_columns_decide()
+    ensures { NamedColumnsDecide }
 {}

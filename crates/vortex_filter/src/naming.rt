@@ -1,7 +1,7 @@
 //! The columns that a filter names.
 
 ghost use Rattle.std.specs.Prelude.{◌≡◌, slice_set, true};
-ghost use Rattle.vortex_filter.specs.Named.{with_columns};
+ghost use Rattle.vortex_filter.specs.Named.{AreMarked};
 ghost use Rattle.vortex_filter.specs.Words.{formula};
 
 use crate::filter::Filter;
@@ -10,7 +10,7 @@ impl Filter {
     /// Sets the flag of each column that the filter names, if the flags reach to it.
     #[tactic(auto, using(crate::proofs::Steps::shown))]
     pub fn mark_columns(&self, flags: &mut [bool])
-        ensures { flags.new ≡ with_columns (formula self.now) flags.old }
+        ensures { AreMarked (formula self.now) flags.old flags.new }
     {
         match self {
             Filter::Constant(_) => {}
