@@ -20,12 +20,12 @@ use Rattle.vortex_statistics.specs.declared.column_statistics.Bound.{Bound}
 use Rattle.vortex_statistics.specs.declared.column_statistics.ColumnStatistics.{ColumnStatistics}
 use Rattle.arrow_columns.specs.declared.formats.Format.TheVariants as formats
 use Rattle.column_items.proofs.FormatTypes.{no_variant_in as no_variant_in_format}
-use Rattle.named_statistics.specs.Named.{SaysNamedBound, SaysNamedVariant, named_encoding}
+use Rattle.named_statistics.specs.Named.{IsBadNamedEncoding, IsWrongAt, SaysNamedBound, named_encoding}
 use Rattle.statistics_bytes.specs.Encoding.{AreOf, IsBoundOf, IsHeldBound, IsHeldKnown}
 use Rattle.vortex_statistics.specs.declared.error.StatisticsError.{StatisticsError}
-use Rattle.vortex_statistics.specs.declared.error.StatisticsError.TheVariants.{BadBytes, HasVariant, OutOfMemory as Memory}
+use Rattle.vortex_statistics.specs.declared.error.StatisticsError.TheVariants.{BadBytes, HasVariant, OutOfMemory as Memory, TooManyRows}
 use Rattle.column_statistics.specs.Errors.{IsColumnStatisticsError}
-use Rattle.column_statistics.specs.Encodings.{IsEncodingAs, IsEncodingError, IsExtensionType, IsMergeError, IsMergedEncoding, IsReadError, IsWrongAt, fault_of_piece, read_fault}
+use Rattle.column_statistics.specs.Encodings.{IsEncodingAs, IsEncodingError, IsExtensionType, IsMergeError, IsMergedEncoding, IsReadError, fault_of_piece, read_fault}
 use Rattle.column_statistics.specs.declared.errors.MergeError.{MergeError}
 use Rattle.column_statistics.specs.declared.errors.ReadError.{ReadError}
 use Rattle.column_statistics.specs.declared.errors.ReadError.TheVariants as read
@@ -145,14 +145,11 @@ pub read_whole : (t u : TypeTree) (bytes : List ℕ) (s : Known) → t ≡ u →
 read_whole t u bytes s e h = (subst (λ v. AreOf v s) e h.of_type, h.is ∙ ap (λ v. named_encoding v s) e)
 
 -- why bytes are not read, of a type that is this one, in which no variant stands
-pub not_read : (t : TypeTree) (kind : Kind) (bytes : List ℕ) (e : StatisticsError) (told : ReadError) → t ≡ type_of_kind kind → told ≡ read_fault e
-    → (e ≡ HasVariant → SaysNamedVariant t bytes) → ((place : ℕ) → e ≡ BadBytes place → IsWrongAt t bytes place)
-    → ((e ≡ HasVariant) ⊎ (((e ≡ Memory) × SaysNamedBound t bytes) ⊎ ((place : ℕ) × (e ≡ BadBytes place)))) → IsReadError kind bytes told
-not_read t kind bytes e told q f variant bad (inl h) = absurd ((variant h).0 (subst HasNoVariant (sym q) (no_variant kind)))
-not_read t kind bytes e told q f variant bad (inr (inl h)) =
-    subst (IsReadError kind bytes) (sym (f ∙ ap read_fault h.0)) (inr (subst (λ v. SaysNamedBound v bytes) q h.1))
-not_read t kind bytes e told q f variant bad (inr (inr h)) =
-    subst (IsReadError kind bytes) (sym (f ∙ ap read_fault h.1)) (subst (λ v. IsWrongAt v bytes h.0) q (bad h.0 h.1))
+pub not_read : (t : TypeTree) (kind : Kind) (bytes : List ℕ) (e : StatisticsError) (told : ReadError) → t ≡ type_of_kind kind → told ≡ read_fault e → IsBadNamedEncoding t bytes e → IsReadError kind bytes told
+not_read t kind bytes HasVariant told q f v = absurd (v.0 (subst HasNoVariant (sym q) (no_variant kind)))
+not_read t kind bytes Memory told q f h = subst (IsReadError kind bytes) (sym f) (inr (subst (λ v. SaysNamedBound v bytes) q h.1))
+not_read t kind bytes TooManyRows told q f h = absurd h
+not_read t kind bytes (BadBytes place) told q f h = subst (IsReadError kind bytes) (sym f) (subst (λ v. IsWrongAt v bytes place) q h.1)
 
 -- the type of a kind takes memory
 pub logical_takes : (kind : Kind) → IsLogical kind → IsExtensionType (type_of_kind kind)

@@ -7,9 +7,8 @@ use Rattle.vortex_dtype.specs.TypeTree.{TypeTree, extension_type}
 use Rattle.arrow_columns.specs.declared.kinds.Kind.{Kind}
 use Rattle.column_cells.specs.Types.{type_of_kind}
 use Rattle.column_items.specs.Numbers.{HasContentOf}
-use Rattle.named_statistics.specs.Named.{IsNamedEncodingOf, SaysNamedBound, named_encoding}
+use Rattle.named_statistics.specs.Named.{IsNamedEncodingOf, IsWrongAt, SaysNamedBound, named_encoding}
 use Rattle.statistics_bytes.specs.Encoding.{AreOf}
-use Rattle.statistics_bytes.specs.EncodingAnswers.{HasValues, IsFirstWrong}
 use Rattle.vortex_statistics.specs.Merging.{AreRightTogether, merged}
 use Rattle.vortex_statistics.specs.Statistics.{AreRight, Known, KnownBound, known}
 use Rattle.vortex_statistics.specs.declared.column_statistics.ColumnStatistics.{ColumnStatistics}
@@ -45,10 +44,6 @@ IsEncodingError column (Unreadable fault) = IsErrorOf column fault
 pub record IsEncodingAs (t : TypeTree) (bytes : List ℕ) (s : Known) : Type 0 where
   pub of_type : AreOf t s
   pub is : bytes ≡ named_encoding t s
-
--- the bytes are no encoding of statistics of the type, and this is the offset of the first byte that none has there
-abbrev pub IsWrongAt : TypeTree → List ℕ → ℕ → Type 0
-IsWrongAt t bytes place = IsFirstWrong (IsNamedEncodingOf t) (SaysNamedBound t bytes → HasValues t) bytes place
 
 -- the bound, if it is there, is null or a value of the kind
 abbrev pub HasValueIn : Kind → Option KnownBound → Type 0

@@ -78,17 +78,11 @@ pub fn scalar_of_column(
 {
     laws::storages_fit(logical);
     let value = value_of_storage(alloc, storage_type(logical), storage)?;
-    match dtype.clone(alloc) {
-        Ok(dtype) => Ok(Scalar {
-            dtype,
-            value: Some(value),
-        }),
-        Err(cause) => {
-            drop(value);
-            drop(cause);
-            Err(VortexError::OutOfMemory)
-        }
-    }
+    let dtype = dtype.clone(alloc)?;
+    Ok(Scalar {
+        dtype,
+        value: Some(value),
+    })
 }
 
 /// The raw value of a storage.

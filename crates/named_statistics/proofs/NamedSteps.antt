@@ -1,21 +1,19 @@
 -- What is read behind the name of a type, and where bytes are wrong.
-use Rattle.std.proofs.Common.{◌≡◌, ◌≢◌, ◌⊎◌, ◌∙◌, inl, inr, ℕ, zero, suc, ◌+◌, ◌-◌, ◌^◌, ◌<◌, ◌≤◌, List, [], ◌∷◌, ◌++◌, length, length-append, take, drop, get_or, IfErr, Ok, Err, Result, refl, sym, ap, subst, arith}
-use Rattle.std.specs.Prelude.{◌↔◌, OnOk}
-use Rattle.std.proofs.Math.Nat.{zero-add}
-use Rattle.std.proofs.Math.Seq.{drop-append_seam, take-append_seam}
+use Rattle.std.proofs.Common.{◌≡◌, ◌⊎◌, ◌∙◌, inl, inr, ℕ, zero, suc, ◌+◌, ◌-◌, ◌^◌, ◌<◌, ◌≤◌, List, [], ◌∷◌, ◌++◌, length, length-append, take, drop, get_or, Err, Result, refl, sym, ap, subst, arith}
+use Rattle.std.specs.Prelude.{◌↔◌}
+use Rattle.std.proofs.Math.Seq.{take-append_seam}
 use Rattle.std.proofs.lemmas.List.{append_assoc, append_cancel_left, get_or-take, get_or_append_left, length-drop, length-take-le, take-append-drop, take_all}
-use Rattle.vortex_cells.specs.Cells.{Cell}
 use Rattle.vortex_dtype.specs.TypeTree.{TypeTree, extension_type}
 use Rattle.vortex_value.specs.TypesWithin.{HasNoVariant}
 use Rattle.vortex_statistics.specs.Merging.{nothing}
 use Rattle.vortex_statistics.specs.Statistics.{Known}
 use Rattle.vortex_statistics.specs.declared.error.StatisticsError.{StatisticsError}
 use Rattle.vortex_statistics.specs.declared.error.StatisticsError.TheVariants.{BadBytes, HasVariant, OutOfMemory, TooManyRows}
-use Rattle.statistics_bytes.specs.Encoding.{AreOf, IsEncodingOf, IsHeldKnown, encoding}
-use Rattle.statistics_bytes.specs.EncodingAnswers.{HasValues, IsFirstWrong, MayGoOn, ReadsInto, ReadsRight, SaysBound}
+use Rattle.statistics_bytes.specs.Encoding.{AreOf, IsEncodingOf, encoding}
+use Rattle.statistics_bytes.specs.EncodingAnswers.{HasValues, IsBadEncoding, IsFirstWrong, MayGoOn, ReadsRight, SayVariant, SaysBound}
 use Rattle.statistics_bytes.proofs.FirstWrong.{Follow, after_front}
 use Rattle.named_statistics.specs.Heads.{head_from, head_of, id_byte}
-use Rattle.named_statistics.specs.Named.{IsNamedEncodingOf, IsOffsetWithin, IsWrongHead, ReadsNamed, SaysNamedBound, SaysNamedVariant, named_encoding, refusal_from}
+use Rattle.named_statistics.specs.Named.{IsBadNamedEncoding, IsNamedEncodingOf, IsOffsetWithin, IsWrongHead, ReadsNamed, SaysNamedBound, SaysNamedVariant, named_encoding, refusal_from}
 
 -- ---- what is written
 
@@ -156,9 +154,9 @@ right_behind t bytes rest start r at is h = record {
 -- ---- refusals
 
 pub offset_fits : (start : ℕ) (bytes rest : List ℕ) (t : TypeTree) (e : StatisticsError) → IsBehind t bytes rest start → length bytes < 2 ^ 64
-    → ((place : ℕ) → e ≡ BadBytes place → IsFirstWrong (IsEncodingOf t) (SaysBound rest → HasValues t) rest place) → IsOffsetWithin start e
+    → IsBadEncoding t rest e → IsOffsetWithin start e
 offset_fits start bytes rest t (BadBytes place) at small bad =
-    let inside = (bad place refl).within in
+    let inside = bad.1.within in
     let all = ap length at.is in
     omega (arith, inside, all, at.count, length-append (head_of t) rest)
 offset_fits start bytes rest t OutOfMemory at small bad = tt
@@ -194,34 +192,17 @@ variant_behind t bytes rest start e at h = (
   λ says. ap not_read (ap (refusal_from start) (same_refusal e HasVariant (h.1 (says.0, named_says t bytes rest start at says.1)))),
 )
 
-same_place : (p q : ℕ) → BadBytes p ≡ BadBytes q → p ≡ q
-same_place p q e = cc
+pub bad_behind : (t : TypeTree) (bytes rest : List ℕ) (start : ℕ) (e : StatisticsError) → IsBehind t bytes rest start → IsBadEncoding t rest e → IsBadNamedEncoding t bytes (refusal_from start e)
+bad_behind t bytes rest start e at h = by_cause e h
+  where
+    no_variant : ¬ (SayVariant t rest) → ¬ (SaysNamedVariant t bytes)
+    no_variant other v = other (v.0, named_says t bytes rest start at v.1)
 
-memory_or_bytes : (place : ℕ) → OutOfMemory ≡ BadBytes place → ⊥
-memory_or_bytes place e = cc
-
-variant_or_bytes : (place : ℕ) → HasVariant ≡ BadBytes place → ⊥
-variant_or_bytes place e = cc
-
-rows_or_bytes : (place : ℕ) → TooManyRows ≡ BadBytes place → ⊥
-rows_or_bytes place e = cc
-
-pub bad_behind : (t : TypeTree) (bytes rest : List ℕ) (start : ℕ) (e : StatisticsError) → IsBehind t bytes rest start
-    → ((place : ℕ) → not_read e ≡ not_read (BadBytes place) → IsFirstWrong (IsEncodingOf t) (SaysBound rest → HasValues t) rest place)
-    → (place : ℕ) → not_read (refusal_from start e) ≡ not_read (BadBytes place) → IsFirstWrong (IsNamedEncodingOf t) (SaysNamedBound t bytes → HasValues t) bytes place
-bad_behind t bytes rest start (BadBytes p) at h place is =
-    subst (IsFirstWrong (IsNamedEncodingOf t) (SaysNamedBound t bytes → HasValues t) bytes) (same_place (start + p) place (same_refusal (BadBytes (start + p)) (BadBytes place) is)) (wrong_behind t bytes rest start p at (h p refl))
-bad_behind t bytes rest start OutOfMemory at h place is = absurd (memory_or_bytes place (same_refusal OutOfMemory (BadBytes place) is))
-bad_behind t bytes rest start HasVariant at h place is = absurd (variant_or_bytes place (same_refusal HasVariant (BadBytes place) is))
-bad_behind t bytes rest start TooManyRows at h place is = absurd (rows_or_bytes place (same_refusal TooManyRows (BadBytes place) is))
-
-abbrev IsCause : Type 0 → StatisticsError → Type 0
-IsCause says e = (e ≡ HasVariant) ⊎ (((e ≡ OutOfMemory) × says) ⊎ ((place : ℕ) × (e ≡ BadBytes place)))
-
-pub cause_behind : (t : TypeTree) (bytes rest : List ℕ) (start : ℕ) (e : StatisticsError) → IsBehind t bytes rest start → IsCause (SaysBound rest) e → IsCause (SaysNamedBound t bytes) (refusal_from start e)
-cause_behind t bytes rest start e at (inl is) = inl (ap (refusal_from start) is)
-cause_behind t bytes rest start e at (inr (inl h)) = inr (inl (ap (refusal_from start) h.0, says_named t bytes rest start at h.1))
-cause_behind t bytes rest start e at (inr (inr h)) = inr (inr (start + h.0, ap (refusal_from start) h.1))
+    by_cause : (e : StatisticsError) → IsBadEncoding t rest e → IsBadNamedEncoding t bytes (refusal_from start e)
+    by_cause HasVariant v = (v.0, says_named t bytes rest start at v.1)
+    by_cause OutOfMemory h = (no_variant h.0, says_named t bytes rest start at h.1)
+    by_cause TooManyRows h = h
+    by_cause (BadBytes place) h = (no_variant h.0, wrong_behind t bytes rest start place at h.1)
 
 pub whole_behind : (t : TypeTree) (bytes rest : List ℕ) (start : ℕ) (e : StatisticsError) (now : Known) → IsBehind t bytes rest start
     → ((s : Known) → AreOf t s → rest ≡ encoding s → e ≡ OutOfMemory) → (s : Known) → AreOf t s → bytes ≡ named_encoding t s → refusal_from start e ≡ OutOfMemory
@@ -229,25 +210,20 @@ whole_behind t bytes rest start e now at h s of is = ap (refusal_from start) (h 
 
 -- ---- a wrong name is no other refusal
 
+no_bound : (t : TypeTree) (bytes : List ℕ) (place : ℕ) → IsWrongHead (head_of t) bytes place → ¬ (SaysNamedBound t bytes)
+no_bound t bytes place h says =
+    let all = ap length says.is in
+    let inside : place < length bytes = omega (arith, all, length-append (head_of t) says.rest, h.within) in
+    h.differs inside (ap (λ (xs : List ℕ). get_or xs place 0) says.is ∙ get_or_append_left (head_of t) says.rest 0 place h.within)
+
 pub head_variant : (t : TypeTree) (bytes : List ℕ) (e : StatisticsError) → (place : ℕ) × (e ≡ BadBytes place) × IsWrongHead (head_of t) bytes place → (not_read e ≡ not_read HasVariant) ↔ SaysNamedVariant t bytes
 head_variant t bytes e h = (
   λ is. absurd (bytes_or_variant h.0 (sym h.1 ∙ same_refusal e HasVariant is)),
-  λ says. absurd (not_found says.1.rest says.1.is),
+  λ v. absurd (no_bound t bytes h.0 h.2 v.1),
 )
-  where
-    not_found : (rest : List ℕ) → bytes ≡ head_of t ++ rest → ⊥
-    not_found rest is =
-        let all = ap length is in
-        let inside : h.0 < length bytes = omega (arith, all, length-append (head_of t) rest, h.2.within) in
-        h.2.differs inside (ap (λ (xs : List ℕ). get_or xs h.0 0) is ∙ get_or_append_left (head_of t) rest 0 h.0 h.2.within)
 
-pub head_bad : (t : TypeTree) (bytes : List ℕ) (e : StatisticsError) → (q : ℕ) × (e ≡ BadBytes q) × IsWrongHead (head_of t) bytes q
-    → (place : ℕ) → not_read e ≡ not_read (BadBytes place) → IsFirstWrong (IsNamedEncodingOf t) (SaysNamedBound t bytes → HasValues t) bytes place
-head_bad t bytes e h place is =
-    subst (IsFirstWrong (IsNamedEncodingOf t) (SaysNamedBound t bytes → HasValues t) bytes) (same_place h.0 place (sym h.1 ∙ same_refusal e (BadBytes place) is)) (wrong_head t _ bytes h.0 h.2)
-
-pub head_cause : (t : TypeTree) (bytes : List ℕ) (e : StatisticsError) → (q : ℕ) × (e ≡ BadBytes q) × IsWrongHead (head_of t) bytes q → IsCause (SaysNamedBound t bytes) e
-head_cause t bytes e h = inr (inr (h.0, h.1))
+pub head_bad : (t : TypeTree) (bytes : List ℕ) (e : StatisticsError) → (place : ℕ) × (e ≡ BadBytes place) × IsWrongHead (head_of t) bytes place → IsBadNamedEncoding t bytes e
+head_bad t bytes e h = subst (IsBadNamedEncoding t bytes) (sym h.1) (λ v. no_bound t bytes h.0 h.2 v.1, wrong_head t _ bytes h.0 h.2)
 
 pub head_whole : (t : TypeTree) (bytes : List ℕ) (e : StatisticsError) → (q : ℕ) × (e ≡ BadBytes q) × IsWrongHead (head_of t) bytes q → (s : Known) → AreOf t s → bytes ≡ named_encoding t s → e ≡ OutOfMemory
 head_whole t bytes e h s of is = absurd ((wrong_head t (Unit {0}) bytes h.0 h.2).none (record { statistics = s; of_type = of; is = is }))

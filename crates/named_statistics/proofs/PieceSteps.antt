@@ -1,15 +1,14 @@
 -- What a piece says is what is read of it.
-use Rattle.std.proofs.Common.{◌≡◌, ◌≢◌, ◌<◌, ◌+◌, inl, inr, ℕ, List, [], ◌∷◌, ◌++◌, length, length-append, Result, Ok, Err, IfErr, refl, sym, ap, ◌∙◌, arith}
-use Rattle.std.specs.Prelude.{◌↔◌, ◌⊎◌, OnOk}
+use Rattle.std.proofs.Common.{◌≡◌, ◌≢◌, ◌<◌, ℕ, List, [], ◌∷◌, length, length-append, Result, Ok, Err, IfErr, sym, ap, ◌∙◌, arith}
+use Rattle.std.specs.Prelude.{◌↔◌, OnOk}
 use Rattle.vortex_dtype.specs.TypeTree.{TypeTree}
 use Rattle.vortex_statistics.specs.Statistics.{Known}
 use Rattle.vortex_statistics.specs.declared.error.StatisticsError.{StatisticsError}
-use Rattle.vortex_statistics.specs.declared.error.StatisticsError.TheVariants.{BadBytes, HasVariant, OutOfMemory, TooManyRows}
-use Rattle.statistics_bytes.specs.Encoding.{AreOf, encoding}
-use Rattle.statistics_bytes.specs.EncodingAnswers.{HasValues, IsFirstWrong}
+use Rattle.vortex_statistics.specs.declared.error.StatisticsError.TheVariants.{HasVariant}
+use Rattle.statistics_bytes.specs.Encoding.{encoding}
 use Rattle.statistics_bytes.specs.Pieces.{nothing_known}
 use Rattle.named_statistics.specs.Heads.{head_of}
-use Rattle.named_statistics.specs.Named.{IsBadNamedPiece, IsNamedEncodingOf, ReadsNamed, SaysNamed, SaysNamedBound, SaysNamedVariant, named_encoding}
+use Rattle.named_statistics.specs.Named.{IsBadNamedEncoding, IsBadNamedPiece, IsNamedEncodingAs, ReadsNamed, SaysNamed, SaysNamedBound, SaysNamedVariant, named_encoding}
 
 -- ---- an empty piece
 
@@ -65,51 +64,19 @@ some_bytes : (piece : List ℕ) → 0 < length piece → piece ≢ []
 some_bytes [] some e = absurd (omega (arith, some))
 some_bytes (b ∷ piece) some e = absurd cc
 
-says_encoding : (t : TypeTree) (piece : List ℕ) (s : Known) → 0 < length piece → AreOf t s × (piece ≡ named_encoding t s) → SaysNamed t piece s
+says_encoding : (t : TypeTree) (piece : List ℕ) (s : Known) → 0 < length piece → IsNamedEncodingAs t piece s → SaysNamed t piece s
 says_encoding t [] s some is = absurd (omega (arith, some))
 says_encoding t (b ∷ piece) s some is = is
 
-pub encoding_said : (t : TypeTree) (piece : List ℕ) (s : Known) → 0 < length piece → SaysNamed t piece s → AreOf t s × (piece ≡ named_encoding t s)
+pub encoding_said : (t : TypeTree) (piece : List ℕ) (s : Known) → 0 < length piece → SaysNamed t piece s → IsNamedEncodingAs t piece s
 encoding_said t [] s some said = absurd (omega (arith, some))
 encoding_said t (b ∷ piece) s some said = said
 
-pub said_if_read : (t : TypeTree) (piece : List ℕ) (s : Known) (r : Result (Unit {0}) StatisticsError) → 0 < length piece → OnOk r (AreOf t s × (piece ≡ named_encoding t s)) → OnOk r (SaysNamed t piece s)
+pub said_if_read : (t : TypeTree) (piece : List ℕ) (s : Known) (r : Result (Unit {0}) StatisticsError) → 0 < length piece → OnOk r (IsNamedEncodingAs t piece s) → OnOk r (SaysNamed t piece s)
 said_if_read t piece s (Ok u) some is = says_encoding t piece s some is
 said_if_read t piece s (Err e) some is = tt
 
-memory_or_variant : refused_as OutOfMemory ≡ refused_as HasVariant → ⊥
-memory_or_variant e = cc
-
-bytes_or_variant : (place : ℕ) → refused_as (BadBytes place) ≡ refused_as HasVariant → ⊥
-bytes_or_variant place e = cc
-
--- the reasons that there are
-abbrev IsCause : TypeTree → List ℕ → StatisticsError → Type 0
-IsCause t piece e = (e ≡ HasVariant) ⊎ (((e ≡ OutOfMemory) × SaysNamedBound t piece) ⊎ ((place : ℕ) × (e ≡ BadBytes place)))
-
-memory_or_bytes : (place : ℕ) → OutOfMemory ≡ BadBytes place → ⊥
-memory_or_bytes place e = cc
-
-bound_said : (t : TypeTree) (piece : List ℕ) → IsCause t piece OutOfMemory → SaysNamedBound t piece
-bound_said t piece (inl e) = absurd cc
-bound_said t piece (inr (inl h)) = h.1
-bound_said t piece (inr (inr h)) = absurd (memory_or_bytes h.0 h.1)
-
-rows_or_memory : TooManyRows ≡ OutOfMemory → ⊥
-rows_or_memory e = cc
-
-rows_or_bytes : (place : ℕ) → TooManyRows ≡ BadBytes place → ⊥
-rows_or_bytes place e = cc
-
-no_rows : (t : TypeTree) (piece : List ℕ) → IsCause t piece TooManyRows → ⊥
-no_rows t piece (inl e) = cc
-no_rows t piece (inr (inl h)) = rows_or_memory h.0
-no_rows t piece (inr (inr h)) = rows_or_bytes h.0 h.1
-
-pub refused_piece : (t : TypeTree) (piece : List ℕ) (r : Result (Unit {0}) StatisticsError) → 0 < length piece → (r ≡ refused_as HasVariant) ↔ SaysNamedVariant t piece
-    → ((place : ℕ) → r ≡ refused_as (BadBytes place) → IsFirstWrong (IsNamedEncodingOf t) (SaysNamedBound t piece → HasValues t) piece place) → IfErr r (IsCause t piece) → IfErr r (IsBadNamedPiece t piece)
-refused_piece t piece (Ok u) some variant bad cause = tt
-refused_piece t piece (Err HasVariant) some variant bad cause = variant.0 refl
-refused_piece t piece (Err OutOfMemory) some variant bad cause = (λ said. absurd (memory_or_variant (variant.1 said)), bound_said t piece cause)
-refused_piece t piece (Err TooManyRows) some variant bad cause = absurd (no_rows t piece cause)
-refused_piece t piece (Err (BadBytes place)) some variant bad cause = (some_bytes piece some, λ said. absurd (bytes_or_variant place (variant.1 said)), bad place refl)
+-- why it was not read
+pub bad_piece : (t : TypeTree) (piece : List ℕ) (r : Result (Unit {0}) StatisticsError) → 0 < length piece → IfErr r (IsBadNamedEncoding t piece) → IfErr r (IsBadNamedPiece t piece)
+bad_piece t piece (Ok u) some bad = tt
+bad_piece t piece (Err e) some bad = (some_bytes piece some, bad)

@@ -17,6 +17,10 @@ use Rattle.named_statistics.specs.Heads.{head_of}
 abbrev pub named_encoding : TypeTree → Known → List ℕ
 named_encoding t s = head_of t ++ encoding s
 
+-- the bytes of these statistics, which are of the type
+abbrev pub IsNamedEncodingAs : TypeTree → List ℕ → Known → Type 0
+IsNamedEncodingAs t bytes s = AreOf t s × (bytes ≡ named_encoding t s)
+
 -- the bytes of statistics of the type
 pub record IsNamedEncodingOf (t : TypeTree) (bytes : List ℕ) : Type 0 where
   pub statistics : Known
@@ -45,7 +49,7 @@ pub record ReadsNamed (t : TypeTree) (bytes : List ℕ) (r : Known) : Type 0 whe
 -- what a piece says of a column of the type: nothing if it is empty, and else the statistics whose bytes it is
 abbrev pub SaysNamed : TypeTree → List ℕ → Known → Type 0
 SaysNamed t [] s = s ≡ nothing_known
-SaysNamed t (b ∷ bytes) s = AreOf t s × (b ∷ bytes ≡ named_encoding t s)
+SaysNamed t (b ∷ bytes) s = IsNamedEncodingAs t (b ∷ bytes) s
 
 -- ---- why nothing is read
 
@@ -68,10 +72,17 @@ abbrev pub IsOffsetWithin : ℕ → StatisticsError → Type 0
 IsOffsetWithin start (BadBytes place) = start + place < 2 ^ 64
 IsOffsetWithin start _ = Unit {0}
 
--- why a piece says nothing of a column of the type, as of statistics that name no type
+-- the bytes are those of no statistics of the type, and this is the offset of the first byte that none has there
+abbrev pub IsWrongAt : TypeTree → List ℕ → ℕ → Type 0
+IsWrongAt t bytes place = IsFirstWrong (IsNamedEncodingOf t) (SaysNamedBound t bytes → HasValues t) bytes place
+
+-- why no statistics of the type are read, as of statistics that name no type
+abbrev pub IsBadNamedEncoding : TypeTree → List ℕ → StatisticsError → Type 0
+IsBadNamedEncoding t bytes HasVariant = SaysNamedVariant t bytes
+IsBadNamedEncoding t bytes OutOfMemory = (¬ (SaysNamedVariant t bytes)) × SaysNamedBound t bytes
+IsBadNamedEncoding t bytes TooManyRows = ⊥
+IsBadNamedEncoding t bytes (BadBytes place) = (¬ (SaysNamedVariant t bytes)) × IsWrongAt t bytes place
+
+-- why a piece says nothing of a column of the type: it has bytes, which are those of no statistics
 abbrev pub IsBadNamedPiece : TypeTree → List ℕ → StatisticsError → Type 0
-IsBadNamedPiece t piece HasVariant = SaysNamedVariant t piece
-IsBadNamedPiece t piece OutOfMemory = (¬ (SaysNamedVariant t piece)) × SaysNamedBound t piece
-IsBadNamedPiece t piece TooManyRows = ⊥
-IsBadNamedPiece t piece (BadBytes place) =
-    (piece ≢ []) × (¬ (SaysNamedVariant t piece)) × IsFirstWrong (IsNamedEncodingOf t) (SaysNamedBound t piece → HasValues t) piece place
+IsBadNamedPiece t piece e = (piece ≢ []) × IsBadNamedEncoding t piece e

@@ -5,9 +5,9 @@ pub use Rattle.vortex_value.specs.TypesWithin.{HasNoVariant}
 pub use Rattle.vortex_statistics.specs.Statistics.{HasValidBounds, known}
 pub use Rattle.vortex_statistics.specs.declared.error.StatisticsError.TheVariants.{BadBytes, HasVariant, OutOfMemory}
 pub use Rattle.statistics_bytes.specs.Encoding.{AreOf, IsHeldKnown}
-pub use Rattle.statistics_bytes.specs.EncodingAnswers.{HasValues, IsFirstWrong, ReadsAs, ReadsInto}
+pub use Rattle.statistics_bytes.specs.EncodingAnswers.{ReadsAs, ReadsInto}
 pub use Rattle.statistics_bytes.specs.EncodingSteps.{HasNoVariants}
 pub use Rattle.statistics_bytes.specs.Pieces.{nothing_known}
 pub use Rattle.named_statistics.specs.Heads.{first_parameter, head_of, id_byte, second_parameter}
 pub use Rattle.named_statistics.specs.Laws.{NamesTellTypes, StatisticsTellNames}
-pub use Rattle.named_statistics.specs.Named.{IsBadNamedPiece, IsNamedEncodingOf, IsOffsetWithin, IsWrongHead, ReadsNamed, SaysNamed, SaysNamedBound, SaysNamedVariant, named_encoding, refusal_from}
+pub use Rattle.named_statistics.specs.Named.{IsBadNamedEncoding, IsBadNamedPiece, IsNamedEncodingAs, IsOffsetWithin, IsWrongHead, ReadsNamed, SaysNamed, SaysNamedBound, SaysNamedVariant, named_encoding, refusal_from}

@@ -1,16 +1,15 @@
 // SPDX-License-Identifier: Apache-2.0
 //! Statistics from bytes that name a logical type.
 
-ghost use Rattle.std.specs.Prelude.{◌≡◌, ◌++◌, ◌≤◌, ◌↔◌, ◌⊎◌, ℕ, List, Err, IfErr, IfOk, OnOk, drop, length, take};
+ghost use Rattle.std.specs.Prelude.{◌≡◌, ◌++◌, ◌≤◌, ◌↔◌, ℕ, Err, IfErr, IfOk, OnOk, drop, length};
 ghost use Rattle.vortex_statistics.specs.Statistics.{Known};
-ghost use Rattle.named_statistics.specs.Words.{AreOf, BadBytes, HasNoVariant, HasValidBounds, HasValues, HasVariant};
-ghost use Rattle.named_statistics.specs.Words.{IsBadNamedPiece, IsFirstWrong, IsNamedEncodingOf, IsOffsetWithin};
-ghost use Rattle.named_statistics.specs.Words.{IsWrongHead, refusal_from};
-ghost use Rattle.named_statistics.specs.Words.{OutOfMemory, ReadsAs, ReadsInto, ReadsNamed, SaysNamed, SaysNamedBound};
-ghost use Rattle.named_statistics.specs.Words.{SaysNamedVariant, head_of, known, named_encoding, nothing_known, type_of};
+ghost use Rattle.named_statistics.specs.Words.{AreOf, BadBytes, HasValidBounds, HasVariant, IsBadNamedEncoding};
+ghost use Rattle.named_statistics.specs.Words.{IsBadNamedPiece, IsNamedEncodingAs, IsOffsetWithin, IsWrongHead};
+ghost use Rattle.named_statistics.specs.Words.{ReadsAs, ReadsInto, ReadsNamed, SaysNamed, SaysNamedVariant, head_of};
+ghost use Rattle.named_statistics.specs.Words.{known, named_encoding, refusal_from, type_of};
 
 use crate::heads::head_of;
-use statistics_bytes::decode_statistics_into;
+use statistics_bytes::{decode_statistics_into, nothing_known};
 use std::alloc::Global;
 use vortex_dtype::DType;
 use vortex_statistics::{ColumnStatistics, StatisticsError};
@@ -25,28 +24,17 @@ pub fn decode_named_statistics(
     dtype: &DType,
     bytes: &[u8],
 ) -> Result<ColumnStatistics, StatisticsError>
-    ensures read { IfOk result (λ s. AreOf (type_of dtype.now) (known s)
-        × (bytes.now ≡ named_encoding (type_of dtype.now) (known s))) }
+    ensures read { IfOk result (λ s. IsNamedEncodingAs (type_of dtype.now) bytes.now (known s)) }
     ensures valid { IfOk result HasValidBounds }
     ensures whole { (s : Known) → AreOf (type_of dtype.now) s
         → bytes.now ≡ named_encoding (type_of dtype.now) s → ReadsAs s result }
     ensures right { IfOk result (λ s. ReadsNamed (type_of dtype.now) bytes.now (known s)) }
     ensures variant { (result ≡ Err HasVariant) ↔ SaysNamedVariant (type_of dtype.now) bytes.now }
-    ensures bad { (place : ℕ) → result ≡ Err (BadBytes place)
-        → IsFirstWrong (IsNamedEncodingOf (type_of dtype.now))
-        (SaysNamedBound (type_of dtype.now) bytes.now → HasValues (type_of dtype.now)) bytes.now place }
-    ensures refused { IfErr result (λ e. (e ≡ HasVariant)
-        ⊎ (((e ≡ OutOfMemory) × SaysNamedBound (type_of dtype.now) bytes.now)
-        ⊎ ((place : ℕ) × (e ≡ BadBytes place)))) }
+    ensures refused { IfErr result (IsBadNamedEncoding (type_of dtype.now) bytes.now) }
 {
     let mut statistics = ColumnStatistics::empty();
-    match decode_named_into(alloc, dtype, bytes, &mut statistics) {
-        Ok(()) => Ok(statistics),
-        Err(refusal) => {
-            drop(statistics);
-            Err(refusal)
-        }
-    }
+    decode_named_into(alloc, dtype, bytes, &mut statistics)?;
+    Ok(statistics)
 }
 
 /// Puts what a piece says of a column of the type in the place of statistics. A piece has the bytes of
@@ -77,19 +65,6 @@ pub fn decode_named_piece_into(
     decode_named_into(alloc, dtype, piece, statistics)
 }
 
-/// The statistics of a column of which nothing is known.
-fn nothing_known() -> ColumnStatistics
-    ensures known { known result ≡ nothing_known }
-    ensures valid { HasValidBounds result }
-{
-    ColumnStatistics {
-        row_count: u64::MAX,
-        null_count: None,
-        lower: None,
-        upper: None,
-    }
-}
-
 /// Puts what `decode_named_statistics` gives in the place of statistics.
 fn decode_named_into(
     alloc: Global,
@@ -97,20 +72,15 @@ fn decode_named_into(
     bytes: &[u8],
     statistics: &mut ColumnStatistics,
 ) -> Result<(), StatisticsError>
-    ensures read { OnOk result (AreOf (type_of dtype.now) (known statistics.new)
-        × (bytes.now ≡ named_encoding (type_of dtype.now) (known statistics.new))) }
+    ensures read { OnOk result
+        (IsNamedEncodingAs (type_of dtype.now) bytes.now (known statistics.new)) }
     ensures valid { OnOk result (HasValidBounds statistics.new) }
     ensures whole { (s : Known) → AreOf (type_of dtype.now) s
         → bytes.now ≡ named_encoding (type_of dtype.now) s → ReadsInto s (known statistics.new) result }
     ensures right { OnOk result
         (ReadsNamed (type_of dtype.now) bytes.now (known statistics.new)) }
     ensures variant { (result ≡ Err HasVariant) ↔ SaysNamedVariant (type_of dtype.now) bytes.now }
-    ensures bad { (place : ℕ) → result ≡ Err (BadBytes place)
-        → IsFirstWrong (IsNamedEncodingOf (type_of dtype.now))
-        (SaysNamedBound (type_of dtype.now) bytes.now → HasValues (type_of dtype.now)) bytes.now place }
-    ensures refused { IfErr result (λ e. (e ≡ HasVariant)
-        ⊎ (((e ≡ OutOfMemory) × SaysNamedBound (type_of dtype.now) bytes.now)
-        ⊎ ((place : ℕ) × (e ≡ BadBytes place)))) }
+    ensures refused { IfErr result (IsBadNamedEncoding (type_of dtype.now) bytes.now) }
 {
     let start = read_head(dtype, bytes)?;
     match decode_statistics_into(alloc, dtype, &bytes[start..], statistics) {

@@ -1,6 +1,6 @@
 -- What is read of an encoding, part by part, and where its bytes are wrong.
 use Rattle.std.proofs.Common.{◌≡◌, inl, inr, ℕ, zero, suc, ◌+◌, ◌<◌, ◌≤◌, Bool, true, false, List, [], ◌∷◌, ◌++◌, length, length-append, drop, get_or, Option, Some, None, IfErr, Ok, Err, Result, refl, sym, ap, subst, ◌∙◌, arith}
-use Rattle.std.specs.Prelude.{OnOk}
+use Rattle.std.specs.Prelude.{◌↔◌, OnOk}
 use Rattle.std.proofs.Math.Nat.{suc-add, zero-add}
 use Rattle.std.proofs.Math.Seq.{drop-nil}
 use Rattle.std.proofs.lemmas.Bool.{false≢true}
@@ -15,13 +15,13 @@ use Rattle.vortex_row.specs.Held.{AreBytes}
 use Rattle.vortex_row.specs.Keys.{key}
 use Rattle.vortex_row.specs.Laws.{KeysAreApart, ValuesHaveNoTyped}
 use Rattle.vortex_row.specs.declared.options.SortOptions.{SortOptions}
-use Rattle.statistics_bytes.specs.Encoding.{AreOf, IsBoundOf, IsEncodingOf, bound_bytes, count_bytes, encoding, known_count_bytes}
-use Rattle.statistics_bytes.specs.EncodingAnswers.{HasValues, IsFirstWrong, ReadsInto, ReadsRight, SaysBound}
-use Rattle.statistics_bytes.specs.EncodingSteps.{AreBoundKeys, IsBadBound, IsBadEncoding, IsBoundKey, IsBoundReadAt, IsCountsRead, IsRefusal, IsWrongStart, ascending, counts_length, either_there, flags_byte, flags_of, has_bound, is_there, state_at, state_of}
+use Rattle.statistics_bytes.specs.Encoding.{AreOf, IsBoundOf, IsEncodingAs, IsEncodingOf, bound_bytes, count_bytes, encoding, known_count_bytes}
+use Rattle.statistics_bytes.specs.EncodingAnswers.{HasValues, IsBadEncoding, IsFirstWrong, ReadsInto, ReadsRight, SayVariant, SaysBound}
+use Rattle.statistics_bytes.specs.EncodingSteps.{AreBoundKeys, IsBadBound, IsBoundKey, IsBoundReadAt, IsCountsRead, IsRefusal, IsWrongStart, ascending, counts_length, either_there, flags_byte, flags_of, has_bound, is_there, state_at, state_of}
 use Rattle.vortex_statistics.specs.Statistics.{Known, KnownBound, known, known_bound}
 use Rattle.vortex_statistics.specs.declared.column_statistics.ColumnStatistics.{ColumnStatistics}
 use Rattle.vortex_statistics.specs.declared.error.StatisticsError.{StatisticsError}
-use Rattle.vortex_statistics.specs.declared.error.StatisticsError.TheVariants.{BadBytes, HasVariant}
+use Rattle.vortex_statistics.specs.declared.error.StatisticsError.TheVariants.{BadBytes, HasVariant, OutOfMemory, TooManyRows}
 use Rattle.statistics_bytes.specs.declared.flags.BoundState.{BoundState}
 use Rattle.statistics_bytes.specs.declared.flags.BoundState.TheVariants.{Missing, Inexact, Exact}
 use Rattle.statistics_bytes.specs.declared.flags.Flags.{Flags}
@@ -139,13 +139,14 @@ upper_refused apart untyped t f b bytes place next e h (inr w) =
 -- ---- the whole encoding
 
 pub start_refused : (t : TypeTree) (bytes : List ℕ) (e : StatisticsError) → (place : ℕ) × (e ≡ BadBytes place) × IsWrongStart bytes place → IsBadEncoding t bytes e
-start_refused t bytes e h = inr (inr (h.0, h.1 ∙ ap BadBytes (sym (zero-add h.0)), wrong_start t _ bytes h.0 h.2))
+start_refused t bytes e h = subst (IsBadEncoding t bytes) (sym h.1) (λ v. start_says bytes h.0 h.2 v.1, wrong_start t _ bytes h.0 h.2)
 
-pub start_ordered : (t : TypeTree) (bytes : List ℕ) (e : StatisticsError) → (place : ℕ) × (e ≡ BadBytes place) × IsWrongStart bytes place → SaysBound bytes → HasNoVariant t
-start_ordered t bytes e h says = absurd (start_says bytes h.0 h.2 says)
+-- no variant stands in a type, if flags that say a bound show that
+no_variant_said : (t : TypeTree) (bytes : List ℕ) (f : Flags) → (rest : List ℕ) × (bytes ≡ 1 ∷ flags_byte f ∷ rest) → (has_bound f ≡ true → HasNoVariant t) → ¬ (SayVariant t bytes)
+no_variant_said t bytes f start ordered v = v.0 (ordered (flags_say f bytes start.0 start.1 v.1))
 
 pub variant_refused : (t : TypeTree) (bytes : List ℕ) (f : Flags) (e : StatisticsError) → (rest : List ℕ) × (bytes ≡ 1 ∷ flags_byte f ∷ rest) → e ≡ HasVariant → has_bound f ≡ true → ¬ (HasNoVariant t) → IsBadEncoding t bytes e
-variant_refused t bytes f e start is some not = inl (is, not, subst SaysBound (sym start.1) (bytes_say f start.0 some))
+variant_refused t bytes f e start is some not = subst (IsBadEncoding t bytes) (sym is) (not, subst SaysBound (sym start.1) (bytes_say f start.0 some))
 
 pub counts_refused : (t : TypeTree) (bytes : List ℕ) (f : Flags) (e : StatisticsError) → AreBytes bytes → (rest : List ℕ) × (bytes ≡ 1 ∷ flags_byte f ∷ rest) → (has_bound f ≡ true → HasNoVariant t)
     → e ≡ BadBytes (length bytes) → length bytes < 2 + counts_length f.has_null_count → IsBadEncoding t bytes e
@@ -154,13 +155,14 @@ counts_refused t bytes f e small start ordered is short =
     let less : AreBytes (1 ∷ flags_byte f ∷ rest) = subst AreBytes start.1 small in
     let count = ap length start.1 in
     let Wrong : List ℕ → Type 0 = λ xs. IsFirstWrong (IsEncodingOf t) (SaysBound xs → HasValues t) xs (length xs) in
-    inr (inr (length bytes, is ∙ ap BadBytes (sym (zero-add (length bytes))), subst Wrong (sym start.1) (cut_off t f rest (λ k. less (suc (suc k))) (omega arith) ordered)))
+    subst (IsBadEncoding t bytes) (sym is) (no_variant_said t bytes f start ordered, subst Wrong (sym start.1) (cut_off t f rest (λ k. less (suc (suc k))) (omega arith) ordered))
 
-pub bounds_refused : (t : TypeTree) (bytes : List ℕ) (f : Flags) (rows : ℕ) (nulls : Option ℕ) (end : ℕ) (e : StatisticsError) → (rest : List ℕ) × (bytes ≡ 1 ∷ flags_byte f ∷ rest)
+pub bounds_refused : (t : TypeTree) (bytes : List ℕ) (f : Flags) (rows : ℕ) (nulls : Option ℕ) (end : ℕ) (e : StatisticsError) → (rest : List ℕ) × (bytes ≡ 1 ∷ flags_byte f ∷ rest) → (has_bound f ≡ true → HasNoVariant t)
     → IsCountsRead f.has_null_count rows nulls (drop 2 bytes) (drop end bytes) → end ≤ length bytes → IsRefusal (AreBoundKeys t f.lower f.upper) (has_bound f ≡ true) (has_bound f ≡ true → HasValues t) end (drop end bytes) e
     → IsBadEncoding t bytes e
-bounds_refused t bytes f rows nulls end e start counts inside (inl memory) = inr (inl (memory.0, subst SaysBound (sym start.1) (bytes_say f start.0 memory.1)))
-bounds_refused t bytes f rows nulls end e start counts inside (inr w) =
+bounds_refused t bytes f rows nulls end e start ordered counts inside (inl memory) =
+    subst (IsBadEncoding t bytes) (sym memory.0) (no_variant_said t bytes f start ordered, subst SaysBound (sym start.1) (bytes_say f start.0 memory.1))
+bounds_refused t bytes f rows nulls end e start ordered counts inside (inr w) =
     let front = head_bytes f rows nulls in
     let after : start.0 ≡ count_bytes rows ++ (known_count_bytes nulls ++ drop end bytes) = ap (drop 2) (sym start.1) ∙ counts.is in
     let whole : bytes ≡ front ++ drop end bytes =
@@ -171,8 +173,9 @@ bounds_refused t bytes f rows nulls end e start counts inside (inr w) =
     let head : IsHead f rows nulls = record { rows_fit = counts.rows_fit; nulls_fit = counts.nulls_fit; known = counts.known } in
     let last : IsFirstWrong (AreBoundKeys t f.lower f.upper) (SaysBound bytes → HasValues t) (drop end bytes) w.0 = weaker (AreBoundKeys t f.lower f.upper) _ _ (drop end bytes) w.0 (λ v some. v (says some)) w.2 in
     let wrong = after_front (IsEncodingOf t) (AreBoundKeys t f.lower f.upper) (SaysBound bytes → HasValues t) front (drop end bytes) w.0 (after_head t f rows nulls head) last in
-    let from : end + w.0 ≡ 0 + (length front + w.0) = omega arith in
-    inr (inr (length front + w.0, w.1 ∙ ap BadBytes from, subst (λ xs. IsFirstWrong (IsEncodingOf t) (SaysBound bytes → HasValues t) xs (length front + w.0)) (sym whole) wrong))
+    let from : end + w.0 ≡ length front + w.0 = omega arith in
+    subst (IsBadEncoding t bytes) (sym (w.1 ∙ ap BadBytes from))
+    (no_variant_said t bytes f start ordered, subst (λ xs. IsFirstWrong (IsEncodingOf t) (SaysBound bytes → HasValues t) xs (length front + w.0)) (sym whole) wrong)
 
 -- ---- what is read
 
@@ -181,15 +184,19 @@ ordered_in t None None g h e = absurd (false≢true e)
 ordered_in t None (Some b) g h e = h.ordered
 ordered_in t (Some a) b g h e = g.ordered
 
-pub reads_into : KeysAreApart → ValuesHaveNoTyped → (t : TypeTree) (bytes : List ℕ) (x : ColumnStatistics) (r : Result Unit StatisticsError) → OnOk r (AreOf t (known x) × (bytes ≡ encoding (known x))) → IfErr r (IsBadEncoding t bytes)
+-- the encoding of statistics of a type says no bound with a variant
+keyed : (t : TypeTree) (bytes : List ℕ) (s : Known) → IsEncodingAs t bytes s → ¬ (SayVariant t bytes)
+keyed t bytes s h v = v.0 (ordered_in t s.lower s.upper h.0.lower h.0.upper (flags_say (flags_of s) bytes _ (h.1 ∙ encoding-head s) v.1))
+
+pub reads_into : KeysAreApart → ValuesHaveNoTyped → (t : TypeTree) (bytes : List ℕ) (x : ColumnStatistics) (r : Result Unit StatisticsError) → OnOk r (IsEncodingAs t bytes (known x)) → IfErr r (IsBadEncoding t bytes)
     → (s : Known) → AreOf t s → bytes ≡ encoding s → ReadsInto s (known x) r
 reads_into apart untyped t bytes x (Ok u) h g s of is = read_back apart untyped t (known x) s h.0 of (sym h.1 ∙ is)
-reads_into apart untyped t bytes x (Err e) h (inl w) s of is =
-    absurd (w.1 (ordered_in t s.lower s.upper of.lower of.upper (flags_say (flags_of s) bytes _ (is ∙ encoding-head s) w.2)))
-reads_into apart untyped t bytes x (Err e) h (inr (inl memory)) s of is = memory.0
-reads_into apart untyped t bytes x (Err e) h (inr (inr w)) s of is = absurd (w.2.none (record { statistics = s; of_type = of; is = is }))
+reads_into apart untyped t bytes x (Err HasVariant) h v s of is = absurd (keyed t bytes s (of, is) v)
+reads_into apart untyped t bytes x (Err OutOfMemory) h w s of is = refl
+reads_into apart untyped t bytes x (Err TooManyRows) h w s of is = absurd w
+reads_into apart untyped t bytes x (Err (BadBytes place)) h w s of is = absurd (w.1.none (record { statistics = s; of_type = of; is = is }))
 
-pub right_into : KeysAreApart → ValuesHaveNoTyped → (t : TypeTree) (bytes : List ℕ) (x : ColumnStatistics) (r : Result Unit StatisticsError) → OnOk r (AreOf t (known x) × (bytes ≡ encoding (known x))) → OnOk r (ReadsRight t bytes (known x))
+pub right_into : KeysAreApart → ValuesHaveNoTyped → (t : TypeTree) (bytes : List ℕ) (x : ColumnStatistics) (r : Result Unit StatisticsError) → OnOk r (IsEncodingAs t bytes (known x)) → OnOk r (ReadsRight t bytes (known x))
 right_into apart untyped t bytes x (Ok u) h = reads_right apart untyped t bytes (known x) h.0 h.1
 right_into apart untyped t bytes x (Err e) h = tt
 
@@ -201,5 +208,32 @@ not_given e = Err e
 abbrev not_read : StatisticsError → Result Unit StatisticsError
 not_read e = Err e
 
-pub passed_on : (e f : StatisticsError) → not_given e ≡ not_given f → not_read e ≡ not_read f
-passed_on e f h = let same : e ≡ f = cc in ap not_read same
+same_given : (e f : StatisticsError) → not_given e ≡ not_given f → e ≡ f
+same_given e f h = cc
+
+same_read : (e f : StatisticsError) → not_read e ≡ not_read f → e ≡ f
+same_read e f h = cc
+
+pub passed_on : (e f : StatisticsError) (Cause : Type 0) → (not_read e ≡ not_read f) ↔ Cause → (not_given e ≡ not_given f) ↔ Cause
+passed_on e f Cause h = (λ is. h.0 (ap not_read (same_given e f is)), λ cause. ap not_given (same_read e f (h.1 cause)))
+
+-- a refusal for a variant is told exactly where it stands
+
+abbrev was_read : Unit {0} → Result (Unit {0}) StatisticsError
+was_read u = Ok u
+
+read_or_not : (u : Unit {0}) (e : StatisticsError) → was_read u ≡ not_read e → ⊥
+read_or_not u e h = cc
+
+memory_or_variant : not_read OutOfMemory ≡ not_read HasVariant → ⊥
+memory_or_variant e = cc
+
+bytes_or_variant : (place : ℕ) → not_read (BadBytes place) ≡ not_read HasVariant → ⊥
+bytes_or_variant place e = cc
+
+pub variant_told : (t : TypeTree) (bytes : List ℕ) (x : ColumnStatistics) (r : Result Unit StatisticsError) → OnOk r (IsEncodingAs t bytes (known x)) → IfErr r (IsBadEncoding t bytes) → (r ≡ not_read HasVariant) ↔ SayVariant t bytes
+variant_told t bytes x (Ok u) h g = (λ e. absurd (read_or_not u HasVariant e), λ v. absurd (keyed t bytes (known x) h v))
+variant_told t bytes x (Err HasVariant) h v = (λ e. v, λ w. refl)
+variant_told t bytes x (Err OutOfMemory) h w = (λ e. absurd (memory_or_variant e), λ v. absurd (w.0 v))
+variant_told t bytes x (Err TooManyRows) h w = absurd w
+variant_told t bytes x (Err (BadBytes place)) h w = (λ e. absurd (bytes_or_variant place e), λ v. absurd (w.0 v))

@@ -77,6 +77,10 @@ pub record AreOf (t : TypeTree) (s : Known) : Type 0 where
   pub lower : IsBoundOf t s.lower
   pub upper : IsBoundOf t s.upper
 
+-- the encoding of these statistics, which are of the type
+abbrev pub IsEncodingAs : TypeTree → List ℕ → Known → Type 0
+IsEncodingAs t bytes s = AreOf t s × (bytes ≡ encoding s)
+
 -- the encoding of statistics of the type
 pub record IsEncodingOf (t : TypeTree) (bytes : List ℕ) : Type 0 where
   pub statistics : Known

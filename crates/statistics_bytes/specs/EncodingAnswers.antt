@@ -1,14 +1,15 @@
 -- What reading an encoding answers: the statistics that were written, or the first byte that no encoding has there.
 use Rattle.std.specs.Prelude.{◌≡◌, ◌⊎◌, ℕ, suc, ◌<◌, ◌≤◌, List, ◌∷◌, ◌++◌, length, map, take, IfSome, IsSome, Result, MatchResult}
 use Rattle.vortex_dtype.specs.TypeTree.{Same, TypeTree}
+use Rattle.vortex_value.specs.TypesWithin.{HasNoVariant}
 use Rattle.vortex_value.specs.Values.RawTree.{RawTree}
 use Rattle.vortex_row.specs.Decoded.{IsValueOf}
 use Rattle.vortex_cells.specs.Cells.{Cell}
-use Rattle.statistics_bytes.specs.Encoding.{IsHeldKnown, flags, encoding}
+use Rattle.statistics_bytes.specs.Encoding.{IsEncodingOf, IsHeldKnown, flags, encoding}
 use Rattle.vortex_statistics.specs.Statistics.{AreComplete, AreRight, Known, known}
 use Rattle.vortex_statistics.specs.declared.column_statistics.ColumnStatistics.{ColumnStatistics}
 use Rattle.vortex_statistics.specs.declared.error.StatisticsError.{StatisticsError}
-use Rattle.vortex_statistics.specs.declared.error.StatisticsError.TheVariants.{OutOfMemory}
+use Rattle.vortex_statistics.specs.declared.error.StatisticsError.TheVariants.{BadBytes, HasVariant, OutOfMemory, TooManyRows}
 
 -- ---- bytes that are refused
 
@@ -40,6 +41,18 @@ pub record SaysBound (bytes : List ℕ) : Type 0 where
 pub record HasValues (t : TypeTree) : Type 0 where
   pub value : RawTree
   pub is_value : IsValueOf t value
+
+-- the bytes say a bound of a type in which a variant stands
+abbrev pub SayVariant : TypeTree → List ℕ → Type 0
+SayVariant t bytes = (¬ (HasNoVariant t)) × SaysBound bytes
+
+-- Why no statistics of the type are read. If the bytes say a bound of a type with a variant, just that. Else there is no
+-- memory, which a bound alone takes, or this is the first wrong byte.
+abbrev pub IsBadEncoding : TypeTree → List ℕ → StatisticsError → Type 0
+IsBadEncoding t bytes HasVariant = SayVariant t bytes
+IsBadEncoding t bytes OutOfMemory = (¬ (SayVariant t bytes)) × SaysBound bytes
+IsBadEncoding t bytes TooManyRows = ⊥
+IsBadEncoding t bytes (BadBytes place) = (¬ (SayVariant t bytes)) × IsFirstWrong (IsEncodingOf t) (SaysBound bytes → HasValues t) bytes place
 
 -- ---- what is read
 

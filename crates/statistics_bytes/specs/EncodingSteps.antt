@@ -5,11 +5,11 @@ use Rattle.vortex_value.specs.TypesWithin.{HasNoVariant}
 use Rattle.vortex_row.specs.Decoded.{IsFirstBad, IsKeyOf}
 use Rattle.vortex_row.specs.Typed.{HasKey}
 use Rattle.vortex_row.specs.declared.options.SortOptions.{SortOptions}
-use Rattle.statistics_bytes.specs.Encoding.{IsBoundOf, IsEncodingOf, bound_bytes, count_bytes, known_count_bytes}
-use Rattle.statistics_bytes.specs.EncodingAnswers.{HasValues, IsFirstWrong, SaysBound}
+use Rattle.statistics_bytes.specs.Encoding.{IsBoundOf, bound_bytes, count_bytes, known_count_bytes}
+use Rattle.statistics_bytes.specs.EncodingAnswers.{IsFirstWrong}
 use Rattle.vortex_statistics.specs.Statistics.{Known, KnownBound}
 use Rattle.vortex_statistics.specs.declared.error.StatisticsError.{StatisticsError}
-use Rattle.vortex_statistics.specs.declared.error.StatisticsError.TheVariants.{BadBytes, HasVariant, OutOfMemory}
+use Rattle.vortex_statistics.specs.declared.error.StatisticsError.TheVariants.{BadBytes, OutOfMemory}
 use Rattle.statistics_bytes.specs.declared.flags.BoundState.{BoundState}
 use Rattle.statistics_bytes.specs.declared.flags.BoundState.TheVariants.{Missing, Inexact, Exact}
 use Rattle.statistics_bytes.specs.declared.flags.Flags.{Flags}
@@ -137,7 +137,3 @@ IsBadBound t state start old e = ((e ≡ OutOfMemory) × (is_there state ≡ tru
 -- the first wrong byte
 abbrev pub IsRefusal : (List ℕ → Type 0) → Type 0 → Type 0 → ℕ → List ℕ → StatisticsError → Type 0
 IsRefusal Is may_take has_values start bytes e = ((e ≡ OutOfMemory) × may_take) ⊎ ((place : ℕ) × (e ≡ BadBytes (start + place)) × IsFirstWrong Is has_values bytes place)
-
--- why no statistics of the type were read: there is no memory, a bound of a type with a variant, or a wrong byte
-abbrev pub IsBadEncoding : TypeTree → List ℕ → StatisticsError → Type 0
-IsBadEncoding t bytes e = ((e ≡ HasVariant) × (¬ (HasNoVariant t)) × SaysBound bytes) ⊎ IsRefusal (IsEncodingOf t) (SaysBound bytes) (SaysBound bytes → HasValues t) 0 bytes e

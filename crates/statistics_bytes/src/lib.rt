@@ -9,6 +9,6 @@ mod pieces;
 mod reading;
 mod writing;
 
-pub use pieces::decode_piece_into;
+pub use pieces::{decode_piece_into, nothing_known};
 pub use reading::{decode_statistics, decode_statistics_into};
 pub use writing::append_statistics;

@@ -38,8 +38,8 @@ pub fn decode_piece_into(
     decode_statistics_into(alloc, dtype, piece, statistics)
 }
 
-/// The statistics of a column of which nothing is known.
-fn nothing_known() -> ColumnStatistics
+/// The statistics of a column of which nothing is known: they leave all cells open.
+pub fn nothing_known() -> ColumnStatistics
     ensures known { known result ≡ nothing_known }
     ensures valid { HasValidBounds result }
 {

@@ -1,13 +1,13 @@
 //! Statistics from their encoding in bytes.
 
-ghost use Rattle.std.specs.Prelude.{◌≡◌, ◌≢◌, ◌++◌, ◌∷◌, ◌+◌, ◌<◌, ◌≤◌, ◌^◌, ◌↔◌, ◌⊎◌, ℕ, List, [], Err, IfErr, IfOk};
+ghost use Rattle.std.specs.Prelude.{◌≡◌, ◌++◌, ◌∷◌, ◌+◌, ◌<◌, ◌≤◌, ◌^◌, ◌↔◌, ℕ, List, [], Err, IfErr, IfOk};
 ghost use Rattle.std.specs.Prelude.{MatchOption, OnOk, Some, drop, length, option_map, true};
 ghost use Rattle.vortex_statistics.specs.Statistics.{Known};
 ghost use Rattle.statistics_bytes.specs.Words.{AreBoundKeys, AreBoundsRead, AreOf, BadBytes, HasNoVariant};
 ghost use Rattle.statistics_bytes.specs.Words.{HasValidBounds, HasValues, HasVariant, IsBadBound, IsBadEncoding};
-ghost use Rattle.statistics_bytes.specs.Words.{IsBoundKey, IsBoundRead, IsBoundReadAt, IsCountsRead, IsFirstWrong};
-ghost use Rattle.statistics_bytes.specs.Words.{IsEncodingOf, IsRefusal, IsValid, IsValidBound, IsWrongStart};
-ghost use Rattle.statistics_bytes.specs.Words.{OutOfMemory, ReadsAs, ReadsInto, ReadsRight, SaysBound};
+ghost use Rattle.statistics_bytes.specs.Words.{IsBoundKey, IsBoundRead, IsBoundReadAt, IsCountsRead, IsEncodingAs};
+ghost use Rattle.statistics_bytes.specs.Words.{IsRefusal, IsValid, IsValidBound, IsWrongStart};
+ghost use Rattle.statistics_bytes.specs.Words.{ReadsAs, ReadsInto, ReadsRight, SayVariant};
 ghost use Rattle.statistics_bytes.specs.Words.{count_bytes, counts_length, flags_byte, encoding};
 ghost use Rattle.statistics_bytes.specs.Words.{has_bound, is_there, known, known_bound, state_at, type_of};
 
@@ -34,30 +34,18 @@ pub fn decode_statistics(
     dtype: &DType,
     bytes: &[u8],
 ) -> Result<ColumnStatistics, StatisticsError>
-    ensures read { IfOk result (λ s. AreOf (type_of dtype.now) (known s)
-        × (bytes.now ≡ encoding (known s))) }
+    ensures read { IfOk result (λ s. IsEncodingAs (type_of dtype.now) bytes.now (known s)) }
     ensures valid { IfOk result HasValidBounds }
     ensures whole { (s : Known) → AreOf (type_of dtype.now) s → bytes.now ≡ encoding s
         → ReadsAs s result }
     ensures right { IfOk result
         (λ s. ReadsRight (type_of dtype.now) bytes.now (known s)) }
-    ensures variant { (result ≡ Err HasVariant)
-        ↔ (¬ (HasNoVariant (type_of dtype.now)) × SaysBound bytes.now) }
-    ensures bad { (place : ℕ) → result ≡ Err (BadBytes place)
-        → IsFirstWrong (IsEncodingOf (type_of dtype.now))
-        (SaysBound bytes.now → HasValues (type_of dtype.now)) bytes.now place }
-    ensures refused { IfErr result (λ e. (e ≡ HasVariant)
-        ⊎ (((e ≡ OutOfMemory) × SaysBound bytes.now)
-        ⊎ ((place : ℕ) × (e ≡ BadBytes place)))) }
+    ensures variant { (result ≡ Err HasVariant) ↔ SayVariant (type_of dtype.now) bytes.now }
+    ensures refused { IfErr result (IsBadEncoding (type_of dtype.now) bytes.now) }
 {
     let mut statistics = ColumnStatistics::empty();
-    match decode_statistics_into(alloc, dtype, bytes, &mut statistics) {
-        Ok(()) => Ok(statistics),
-        Err(refusal) => {
-            drop(statistics);
-            Err(refusal)
-        }
-    }
+    decode_statistics_into(alloc, dtype, bytes, &mut statistics)?;
+    Ok(statistics)
 }
 
 /// Puts what `decode_statistics` gives in the place of statistics. It spares the moves of a
@@ -71,21 +59,15 @@ pub fn decode_statistics_into(
     bytes: &[u8],
     statistics: &mut ColumnStatistics,
 ) -> Result<(), StatisticsError>
-    ensures read { OnOk result (AreOf (type_of dtype.now) (known statistics.new)
-        × (bytes.now ≡ encoding (known statistics.new))) }
+    ensures read { OnOk result
+        (IsEncodingAs (type_of dtype.now) bytes.now (known statistics.new)) }
     ensures valid { OnOk result (HasValidBounds statistics.new) }
     ensures whole { (s : Known) → AreOf (type_of dtype.now) s → bytes.now ≡ encoding s
         → ReadsInto s (known statistics.new) result }
     ensures right { OnOk result
         (ReadsRight (type_of dtype.now) bytes.now (known statistics.new)) }
-    ensures variant { (result ≡ Err HasVariant)
-        ↔ (¬ (HasNoVariant (type_of dtype.now)) × SaysBound bytes.now) }
-    ensures bad { (place : ℕ) → result ≡ Err (BadBytes place)
-        → IsFirstWrong (IsEncodingOf (type_of dtype.now))
-        (SaysBound bytes.now → HasValues (type_of dtype.now)) bytes.now place }
-    ensures refused { IfErr result (λ e. (e ≡ HasVariant)
-        ⊎ (((e ≡ OutOfMemory) × SaysBound bytes.now)
-        ⊎ ((place : ℕ) × (e ≡ BadBytes place)))) }
+    ensures variant { (result ≡ Err HasVariant) ↔ SayVariant (type_of dtype.now) bytes.now }
+    ensures refused { IfErr result (IsBadEncoding (type_of dtype.now) bytes.now) }
 {
     keys_are_apart();
     values_have_no_typed();
@@ -99,12 +81,10 @@ fn read_encoding(
     bytes: &[u8],
     statistics: &mut ColumnStatistics,
 ) -> Result<(), StatisticsError>
-    ensures read { OnOk result (AreOf (type_of dtype.now) (known statistics.new)
-        × (bytes.now ≡ encoding (known statistics.new))) }
+    ensures read { OnOk result
+        (IsEncodingAs (type_of dtype.now) bytes.now (known statistics.new)) }
     ensures valid { OnOk result (HasValidBounds statistics.new) }
     ensures refused { IfErr result (IsBadEncoding (type_of dtype.now) bytes.now) }
-    ensures ordered { result ≢ Err HasVariant → SaysBound bytes.now
-        → HasNoVariant (type_of dtype.now) }
 {
     keys_are_apart();
     values_have_no_typed();

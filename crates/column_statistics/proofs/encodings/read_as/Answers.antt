@@ -1,5 +1,5 @@
 -- What is read is right, and of the type; else the bytes are wrong, or a bound is no value.
-use Rattle.std.proofs.Common.{Err, ap, subst, sym}
+use Rattle.std.proofs.Common.{subst, sym}
 use Rattle.column_cells.specs.Types.{type_of_kind}
 use Rattle.named_statistics.specs.Named.{ReadsNamed}
 use Rattle.vortex_dtype.specs.TypeOf.{type_of}
@@ -28,5 +28,4 @@ returns-then-not-have_values-clause-refused c = record {
 
 pub returns-in-Err-clause-refused : goal.returns-in-Err-clause-refused
 returns-in-Err-clause-refused c =
-    let h = c.in-Err.ensures in
-    not_read (type_of c.args.dtype.now) c.args.kind c.args.bytes.now c.in-Err.cause c.read_fault.result c.requires c.read_fault.ensures (λ e. h.variant.0 (ap Err e)) (λ place e. h.bad place (ap Err e)) h.refused
+    not_read (type_of c.args.dtype.now) c.args.kind c.args.bytes.now c.in-Err.cause c.read_fault.result c.requires c.read_fault.ensures c.in-Err.ensures.refused

@@ -3,7 +3,7 @@ use Rattle.std.proofs.Common.{◌<◌, ◌∙◌, arith, length, rules, sym}
 use Rattle.std.proofs.lemmas.Bool.{eqb-true}
 use Rattle.std.proofs.lemmas.Bool.Decides.{nat_tests}
 use Rattle.vortex_dtype.specs.TypeOf.{type_of}
-use Rattle.named_statistics.proofs.PieceSteps.{encoding_said, no_variant, reads_nothing, refused_piece, right_for_nothing, said_if_read, says_nothing}
+use Rattle.named_statistics.proofs.PieceSteps.{bad_piece, encoding_said, no_variant, reads_nothing, right_for_nothing, said_if_read, says_nothing}
 use Rattle.named_statistics.proofs.reading.decode_named_piece_into.Goals as goal
 
 pub returns-then-is_empty-clause-said : goal.returns-then-is_empty-clause-said
@@ -31,4 +31,4 @@ returns-clause-whole c =
 pub returns-clause-refused : goal.returns-clause-refused
 returns-clause-refused c =
     let some : 0 < length c.args.piece.now = first_of (search rules, grind (arith, nat_tests)) in
-    refused_piece (type_of c.args.dtype.now) c.args.piece.now c.decode_named_into.result some c.decode_named_into.ensures.variant c.decode_named_into.ensures.bad c.decode_named_into.ensures.refused
+    bad_piece (type_of c.args.dtype.now) c.args.piece.now c.decode_named_into.result some c.decode_named_into.ensures.refused
