@@ -1,6 +1,6 @@
 -- Cells of words are cells of fields.
-use Rattle.std.proofs.Common.{◌≡◌, ℕ, ℤ, List, Bool, true, false, Option, None, Some, Result, Ok, Err, refl, sym, ap, ◌∙◌, subst}
-use Rattle.std.specs.Prelude.{IfOk, IsUtf8, MatchBool, MatchOption}
+use Rattle.std.proofs.Common.{◌≡◌, ℕ, ℤ, List, Bool, true, false, Result, Ok, Err, refl, sym, ap, ◌∙◌, subst}
+use Rattle.std.specs.Prelude.{IfOk, IsUtf8, MatchBool}
 use Rattle.hex.specs.Hex.{decode_of}
 use Rattle.csv_records.specs.Rows.{Field}
 use Rattle.vortex_dtype.specs.declared.nullability.Nullability.{Nullability}
@@ -20,15 +20,16 @@ use Rattle.record_rows.specs.declared.schema.Kind.TheVariants as kinds
 
 -- ---- words of each kind
 
-abbrev Answers : ColumnType → List ℕ → Option Scalar → Type 0
-Answers column word o = MatchOption o (HasNoValue column word) (IsValueCell column word)
+-- x is the cell of the word, or the column does not take it
+abbrev Answers : ColumnType → List ℕ → Scalar → Bool → Type 0
+Answers column word x b = MatchBool b (IsValueCell column word x) (HasNoValue column word)
 
 integer_none : (p : PType) (k : Kind) (word : List ℕ) → k ≡ kinds.Integer p → ((z : ℤ) → ¬ (IsIntegerWord p word z)) → (c : Content) → ¬ (Means k word c)
 integer_none p k word e none c = subst (λ (i : Kind). ¬ (Means i word c)) (sym e) (λ h. none h.0 h.1)
 
-pub integer_value : (column : ColumnType) (p : PType) (word : List ℕ) (o : Option Scalar) → column.kind ≡ kinds.Integer p → MatchOption o ((z : ℤ) → ¬ (IsIntegerWord p word z)) (IsIntegerCell p column.nullability word) → Answers column word o
-integer_value column p word None e h = integer_none p column.kind word e h
-integer_value column p word (Some x) e h = record {
+pub integer_value : (column : ColumnType) (p : PType) (word : List ℕ) (x : Scalar) (b : Bool) → column.kind ≡ kinds.Integer p → MatchBool b (IsIntegerCell p column.nullability word x) ((z : ℤ) → ¬ (IsIntegerWord p word z)) → Answers column word x b
+integer_value column p word x false e h = integer_none p column.kind word e h
+integer_value column p word x true e h = record {
   typed = h.typed ∙ ap (λ (k : Kind). type_by k column.nullability) (sym e);
   content = subst (λ (k : Kind). Means k word (scalar_content x)) (sym e) (h.number, h.is, h.content);
   valid = h.valid;
@@ -37,32 +38,32 @@ integer_value column p word (Some x) e h = record {
 text_none : (k : Kind) (word : List ℕ) → k ≡ kinds.Utf8 → ¬ (IsUtf8 word) → (c : Content) → ¬ (Means k word c)
 text_none k word e none c = subst (λ (i : Kind). ¬ (Means i word c)) (sym e) (λ h. none h.0)
 
-text_one : (column : ColumnType) (word : List ℕ) (o : Option Scalar) → column.kind ≡ kinds.Utf8 → MatchOption o (¬ (IsUtf8 word)) (IsTextCell column.nullability word) → Answers column word o
-text_one column word None e h = text_none column.kind word e h
-text_one column word (Some x) e h = record {
+text_one : (column : ColumnType) (word : List ℕ) (x : Scalar) (b : Bool) → column.kind ≡ kinds.Utf8 → MatchBool b (IsTextCell column.nullability word x) (¬ (IsUtf8 word)) → Answers column word x b
+text_one column word x false e h = text_none column.kind word e h
+text_one column word x true e h = record {
   typed = h.typed ∙ ap (λ (k : Kind). type_by k column.nullability) (sym e);
   content = subst (λ (k : Kind). Means k word (scalar_content x)) (sym e) (h.is, h.content);
   valid = h.valid;
 }
 
-pub text_value : {E : Type 0} (column : ColumnType) (word : List ℕ) (r : Result (Option Scalar) E) → column.kind ≡ kinds.Utf8 → IfOk r (λ o. MatchOption o (¬ (IsUtf8 word)) (IsTextCell column.nullability word)) → IfOk r (Answers column word)
-text_value column word (Ok o) e h = text_one column word o e h
-text_value column word (Err x) e h = tt
+pub text_value : {E : Type 0} (column : ColumnType) (word : List ℕ) (x : Scalar) (r : Result Bool E) → column.kind ≡ kinds.Utf8 → IfOk r (λ b. MatchBool b (IsTextCell column.nullability word x) (¬ (IsUtf8 word))) → IfOk r (Answers column word x)
+text_value column word x (Ok b) e h = text_one column word x b e h
+text_value column word x (Err _) e h = tt
 
 binary_none : (k : Kind) (word : List ℕ) → k ≡ kinds.Binary → ((bytes : List ℕ) → ¬ (decode_of word ≡ Ok bytes)) → (c : Content) → ¬ (Means k word c)
 binary_none k word e none c = subst (λ (i : Kind). ¬ (Means i word c)) (sym e) (λ h. none h.0 h.1)
 
-binary_one : (column : ColumnType) (word : List ℕ) (o : Option Scalar) → column.kind ≡ kinds.Binary → MatchOption o ((bytes : List ℕ) → ¬ (decode_of word ≡ Ok bytes)) (IsBinaryCell column.nullability word) → Answers column word o
-binary_one column word None e h = binary_none column.kind word e h
-binary_one column word (Some x) e h = record {
+binary_one : (column : ColumnType) (word : List ℕ) (x : Scalar) (b : Bool) → column.kind ≡ kinds.Binary → MatchBool b (IsBinaryCell column.nullability word x) ((bytes : List ℕ) → ¬ (decode_of word ≡ Ok bytes)) → Answers column word x b
+binary_one column word x false e h = binary_none column.kind word e h
+binary_one column word x true e h = record {
   typed = h.typed ∙ ap (λ (k : Kind). type_by k column.nullability) (sym e);
   content = subst (λ (k : Kind). Means k word (scalar_content x)) (sym e) (h.bytes, h.is, h.content);
   valid = h.valid;
 }
 
-pub binary_value : {E : Type 0} (column : ColumnType) (word : List ℕ) (r : Result (Option Scalar) E) → column.kind ≡ kinds.Binary → IfOk r (λ o. MatchOption o ((bytes : List ℕ) → ¬ (decode_of word ≡ Ok bytes)) (IsBinaryCell column.nullability word)) → IfOk r (Answers column word)
-binary_value column word (Ok o) e h = binary_one column word o e h
-binary_value column word (Err x) e h = tt
+pub binary_value : {E : Type 0} (column : ColumnType) (word : List ℕ) (x : Scalar) (r : Result Bool E) → column.kind ≡ kinds.Binary → IfOk r (λ b. MatchBool b (IsBinaryCell column.nullability word x) ((bytes : List ℕ) → ¬ (decode_of word ≡ Ok bytes))) → IfOk r (Answers column word x)
+binary_value column word x (Ok b) e h = binary_one column word x b e h
+binary_value column word x (Err _) e h = tt
 
 pub bytes_value : (column : ColumnType) (word : List ℕ) (x : Scalar) → column.kind ≡ kinds.Bytes → IsBytesCell column.nullability word x → IsValueCell column word x
 bytes_value column word x e h = record {
@@ -74,17 +75,17 @@ bytes_value column word x e h = record {
 logical_none : (k : Kind) (l : LogicalType) (word : List ℕ) → k ≡ kinds.Logical l → ((z : ℤ) → ¬ (Writes l word z)) → (c : Content) → ¬ (Means k word c)
 logical_none k l word e none c = subst (λ (i : Kind). ¬ (Means i word c)) (sym e) (λ h. none h.0 h.1)
 
-logical_one : (column : ColumnType) (l : LogicalType) (word : List ℕ) (o : Option Scalar) → column.kind ≡ kinds.Logical l → MatchOption o ((z : ℤ) → ¬ (Writes l word z)) (IsLogicalCell l column.nullability word) → Answers column word o
-logical_one column l word None e h = logical_none column.kind l word e h
-logical_one column l word (Some x) e h = record {
+logical_one : (column : ColumnType) (l : LogicalType) (word : List ℕ) (x : Scalar) (b : Bool) → column.kind ≡ kinds.Logical l → MatchBool b (IsLogicalCell l column.nullability word x) ((z : ℤ) → ¬ (Writes l word z)) → Answers column word x b
+logical_one column l word x false e h = logical_none column.kind l word e h
+logical_one column l word x true e h = record {
   typed = h.typed ∙ ap (λ (k : Kind). type_by k column.nullability) (sym e);
   content = subst (λ (k : Kind). Means k word (scalar_content x)) (sym e) (h.storage, h.is, h.content);
   valid = h.valid;
 }
 
-pub logical_value : {E : Type 0} (column : ColumnType) (l : LogicalType) (word : List ℕ) (r : Result (Option Scalar) E) → column.kind ≡ kinds.Logical l → IfOk r (λ o. MatchOption o ((z : ℤ) → ¬ (Writes l word z)) (IsLogicalCell l column.nullability word)) → IfOk r (Answers column word)
-logical_value column l word (Ok o) e h = logical_one column l word o e h
-logical_value column l word (Err x) e h = tt
+pub logical_value : {E : Type 0} (column : ColumnType) (l : LogicalType) (word : List ℕ) (x : Scalar) (r : Result Bool E) → column.kind ≡ kinds.Logical l → IfOk r (λ b. MatchBool b (IsLogicalCell l column.nullability word x) ((z : ℤ) → ¬ (Writes l word z))) → IfOk r (Answers column word x)
+logical_value column l word x (Ok b) e h = logical_one column l word x b e h
+logical_value column l word x (Err _) e h = tt
 
 -- ---- words that mean something
 
@@ -129,10 +130,10 @@ word_content reading column f c e h = rw e h
 content_word : (reading : Reading) (column : ColumnType) (f : Field) (c : Content) → is_null_field reading column.nullability f ≡ false → IsContent reading column f c → Means column.kind f.text c
 content_word reading column f c e h = subst (λ (b : Bool). MatchBool b (c ≡ null) (Means column.kind f.text c)) e h
 
-word_cell : (reading : Reading) (column : ColumnType) (f : Field) (o : Option Scalar) → is_null_field reading column.nullability f ≡ false → Answers column f.text o → MatchOption o (HasNoCell reading column f) (IsCell reading column f)
-word_cell reading column f None e h = λ c is. h c (content_word reading column f c e is)
-word_cell reading column f (Some x) e h = record { typed = h.typed; content = word_content reading column f (scalar_content x) e h.content; valid = h.valid }
+word_cell : (reading : Reading) (column : ColumnType) (f : Field) (x : Scalar) (b : Bool) → is_null_field reading column.nullability f ≡ false → Answers column f.text x b → MatchBool b (IsCell reading column f x) (HasNoCell reading column f)
+word_cell reading column f x false e h = λ c is. h c (content_word reading column f c e is)
+word_cell reading column f x true e h = record { typed = h.typed; content = word_content reading column f (scalar_content x) e h.content; valid = h.valid }
 
-pub word_cells : {E : Type 0} (reading : Reading) (column : ColumnType) (f : Field) (r : Result (Option Scalar) E) → is_null_field reading column.nullability f ≡ false → IfOk r (Answers column f.text) → IfOk r (λ o. MatchOption o (HasNoCell reading column f) (IsCell reading column f))
-word_cells reading column f (Ok o) e h = word_cell reading column f o e h
-word_cells reading column f (Err x) e h = tt
+pub word_cells : {E : Type 0} (reading : Reading) (column : ColumnType) (f : Field) (x : Scalar) (r : Result Bool E) → is_null_field reading column.nullability f ≡ false → IfOk r (Answers column f.text x) → IfOk r (λ b. MatchBool b (IsCell reading column f x) (HasNoCell reading column f))
+word_cells reading column f x (Ok b) e h = word_cell reading column f x b e h
+word_cells reading column f x (Err _) e h = tt

@@ -1,5 +1,5 @@
 -- Fields are read one after another.
-use Rattle.std.proofs.Common.{◌≡◌, ◌≢◌, ◌==◌, true, ◌≤◌, ◌<◌, ◌+◌, ℕ, suc, List, [], ◌∷◌, ◌++◌, Bool, false, Option, None, Some, Result, Ok, Err, cond, refl, sym, ap, ◌∙◌, subst, length, length-append, take, drop, get_or, arith, take_all}
+use Rattle.std.proofs.Common.{◌≡◌, ◌≢◌, ◌==◌, true, ◌≤◌, ◌<◌, ◌+◌, ℕ, suc, zero, List, [], ◌∷◌, ◌++◌, Bool, false, Option, None, Some, Result, Ok, Err, cond, refl, sym, ap, ◌∙◌, subst, length, length-append, take, drop, get_or, arith, take_all, set}
 use Rattle.std.specs.Prelude.{IfOk, MatchOption, OnOk, is_ok}
 use Rattle.std.proofs.lemmas.Grind.{take_at_read}
 use Rattle.std.proofs.lemmas.List.Sums.{sum_by_push}
@@ -8,7 +8,7 @@ use Rattle.csv_records.specs.Rows.{Field, field_rows, rows_of}
 use Rattle.vortex_value.specs.Values.Scalars.{scalar_content}
 use Rattle.vortex_value.specs.declared.scalars.Scalar.{Scalar}
 use Rattle.record_rows.specs.Readings.{Reading}
-use Rattle.record_rows.specs.Rows.{AreCells, AreCellsIn, HasFields, IsRow, IsRowIn, IsTakenIf, IsTested, PushesCell, Refuses, RefusesFields, RefusesRows, Takes, fitted, is_wanted, refused_of}
+use Rattle.record_rows.specs.Rows.{AreCells, AreCellsIn, HasFields, IsRow, IsRowIn, IsTakenIf, IsTested, PushesCell, ReachesPast, Refuses, RefusesFields, RefusesRows, Takes, fitted, is_wanted, refused_of}
 use Rattle.record_rows.specs.Walks.{AreTaken, HasWalked, IsNext, ReadsNext, field_of}
 use Rattle.record_rows.specs.declared.errors.RowReadError.{RowReadError}
 use Rattle.record_rows.specs.declared.fields.ColumnField.{ColumnField}
@@ -135,11 +135,39 @@ pub stands_at : {X : Type 0} (xs : List X) (i : ℕ) → i < length xs → (x : 
 stands_at [] i inside = absurd (omega arith)
 stands_at (x ∷ xs) i inside = (get_or (x ∷ xs) i x, (take_at_read (x ∷ xs) i x inside).1)
 
-pub put_behind : {A E X : Type 0} (r : Result A E) (old new : List X) (i : ℕ) (x : X) → new ≡ cond (is_ok r) (old ++ x ∷ []) old → length old ≡ i → OnOk r ((y : X) × (take (i + 1) new ≡ take i old ++ y ∷ []))
+front_stays : {X : Type 0} (xs : List X) (k : ℕ) (x : X) → k ≤ length xs → take k (xs ++ x ∷ []) ≡ take k xs
+front_stays xs zero x h = refl
+front_stays [] (suc k) x h = absurd (omega (arith, h))
+front_stays (y ∷ ys) (suc k) x h = ap (λ l. y ∷ l) (front_stays ys k x (omega (arith, h)))
+
+-- one is put behind the last, at this place
+pub put_behind : {A E X : Type 0} (r : Result A E) (old new : List X) (i : ℕ) (x : X) → OnOk r (new ≡ old ++ x ∷ []) → length old ≡ i → OnOk r ((y : X) × (take (i + 1) new ≡ take i old ++ y ∷ []))
 put_behind {X = X} (Ok a) old new i x is long =
     let count : length new ≡ length old + 1 = ap length is ∙ length-append old (x ∷ []) in
     (x, take_all (i + 1) new (omega (arith, count, long)) ∙ is ∙ ap (λ (l : List X). l ++ x ∷ []) (sym (take_all i old (omega (arith, long)))))
 put_behind {X = X} (Err e) old new i x is long = tt
+
+pub kept_before : {A E X : Type 0} (r : Result A E) (old new : List X) (i : ℕ) (x : X) → OnOk r (new ≡ old ++ x ∷ []) → length old ≡ i → OnOk r (take i new ≡ take i old)
+kept_before {X = X} (Ok a) old new i x is long = ap (λ (l : List X). take i l) is ∙ front_stays old i x (omega (arith, long))
+kept_before {X = X} (Err e) old new i x is long = tt
+
+pub reaches_behind : {A E : Type 0} (r : Result A E) (old new : List Scalar) (i : ℕ) (x : Scalar) → OnOk r (new ≡ old ++ x ∷ []) → length old ≡ i → OnOk r (ReachesPast i old new)
+reaches_behind (Ok a) old new i x is long =
+    let count : length new ≡ length old + 1 = ap length is ∙ length-append old (x ∷ []) in
+    record { reaches = omega (arith, count, long); grown = λ n few below. omega (arith, count, long, few, below) }
+reaches_behind (Err e) old new i x is long = tt
+
+-- one that is put at a place where another stands
+pub put_over : {X : Type 0} (old filled : List X) (i : ℕ) (x : X) → i < length filled → take i filled ≡ take i old → take (i + 1) (set filled i x) ≡ take i old ++ x ∷ []
+put_over {X = X} old filled i x inside kept = ap (λ (n : ℕ). take n (set filled i x)) next ∙ over filled i inside ∙ ap (λ (l : List X). l ++ x ∷ []) kept
+  where
+    next : i + 1 ≡ suc i
+    next = omega arith
+
+    over : (xs : List X) (k : ℕ) → k < length xs → take (suc k) (set xs k x) ≡ take k xs ++ x ∷ []
+    over [] k h = absurd (omega (arith, h))
+    over (y ∷ ys) zero h = refl
+    over (y ∷ ys) (suc k) h = ap (λ (l : List X). y ∷ l) (over ys k (omega (arith, h)))
 
 -- ---- the row of a record
 

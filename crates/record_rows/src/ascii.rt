@@ -10,6 +10,7 @@ const TOGETHER: usize = 16;
 
 /// Whether a word is in UTF-8. Most words are in ASCII: three of them in 46 bytes are tested in 80
 /// instructions, and by `from_utf8` alone in 230.
+#[inline(always)]
 pub(crate) fn is_text(word: &[u8]) -> bool
     ensures { MatchBool result (IsUtf8 word.now) (¬ (IsUtf8 word.now)) }
 {

@@ -1,6 +1,6 @@
 //! A field is the cell of its column.
 
-ghost use Rattle.std.specs.Prelude.{◌≡◌, ℕ, ℤ, List, IfOk, IsUtf8, MatchBool, MatchOption};
+ghost use Rattle.std.specs.Prelude.{◌≡◌, ℕ, ℤ, List, IfOk, IsUtf8, MatchBool, OnOk};
 ghost use Rattle.hex.specs.Hex.{decode_of};
 ghost use Rattle.logical_types.specs.Words.{Writes};
 ghost use Rattle.vortex_dtype.specs.declared.nullability.Nullability.TheVariants.{Nullable};
@@ -22,25 +22,29 @@ use std::alloc::{AllocError, Global};
 use vortex_dtype::{ByteBuffer, Nullability, PType};
 use vortex_value::Scalar;
 
-/// The cell that a field is, if its column takes it.
-pub(crate) fn cell_of(
+/// Puts the cell that a field is at this place, and says whether its column takes it.
+#[inline(never)]
+pub(crate) fn put_cell(
     alloc: Global,
     reading: &FieldReading,
     column: ColumnType,
     word: &[u8],
     is_quoted: bool,
-) -> Result<Option<Scalar>, AllocError>
-    ensures { IfOk result (λ cell. MatchOption cell
-        (HasNoCell reading.now column (record { text = word.now; is_quoted = is_quoted }))
-        (IsCell reading.now column (record { text = word.now; is_quoted = is_quoted }))) }
+    cell: &mut Scalar,
+) -> Result<bool, AllocError>
+    ensures { IfOk result (λ taken. MatchBool taken
+        (IsCell reading.now column (record { text = word.now; is_quoted = is_quoted }) cell.new)
+        (HasNoCell reading.now column (record { text = word.now; is_quoted = is_quoted }))) }
 {
     if is_null(reading, column.nullability, word, is_quoted) {
-        return Ok(Some(null_of(alloc, column)?));
+        put_null(alloc, column, cell)?;
+        return Ok(true);
     }
-    value_of(alloc, column, word)
+    put_value(alloc, column, word, cell)
 }
 
 /// Whether its column takes a field.
+#[inline(always)]
 pub(crate) fn is_taken(
     alloc: Global,
     reading: &FieldReading,
@@ -59,6 +63,7 @@ pub(crate) fn is_taken(
 }
 
 /// Whether a word is a value of this kind.
+#[inline(always)]
 fn has_meaning(alloc: Global, kind: Kind, word: &[u8]) -> Result<bool, AllocError>
     ensures { IfOk result (λ has. MatchBool has (HasMeaning kind word.now) (HasNoMeaning kind word.now)) }
 {
@@ -72,6 +77,7 @@ fn has_meaning(alloc: Global, kind: Kind, word: &[u8]) -> Result<bool, AllocErro
 }
 
 /// Whether a word writes a value of a logical type.
+#[inline(never)]
 fn is_written(logical: LogicalType, word: &[u8]) -> bool
     ensures { MatchBool result ((z : ℤ) × Writes logical word.now z) ((z : ℤ) → ¬ (Writes logical word.now z)) }
 {
@@ -82,6 +88,7 @@ fn is_written(logical: LogicalType, word: &[u8]) -> bool
 }
 
 /// Whether a word is hexadecimal digits, two for a byte.
+#[inline(never)]
 fn is_hexadecimal(alloc: Global, word: &[u8]) -> Result<bool, AllocError>
     ensures { IfOk result (λ is. MatchBool is ((bytes : List ℕ) × (decode_of word.now ≡ Ok bytes))
         ((bytes : List ℕ) → ¬ (decode_of word.now ≡ Ok bytes))) }
@@ -97,6 +104,7 @@ fn is_hexadecimal(alloc: Global, word: &[u8]) -> Result<bool, AllocError>
 }
 
 /// Whether a field is a null.
+#[inline(always)]
 fn is_null(reading: &FieldReading, nullability: Nullability, word: &[u8], is_quoted: bool) -> bool
     ensures { result ≡ is_null_field reading.now nullability
         (record { text = word.now; is_quoted = is_quoted }) }
@@ -107,106 +115,140 @@ fn is_null(reading: &FieldReading, nullability: Nullability, word: &[u8], is_quo
     }
 }
 
-/// The null of a column that takes one.
-pub(crate) fn null_of(alloc: Global, column: ColumnType) -> Result<Scalar, AllocError>
+/// Puts the null of a column that takes one at this place.
+#[inline(never)]
+pub(crate) fn put_null(
+    alloc: Global,
+    column: ColumnType,
+    cell: &mut Scalar,
+) -> Result<(), AllocError>
     requires { column.nullability ≡ Nullable }
-    ensures typed { IfOk result (λ cell. scalar_type cell ≡ column_type column) }
-    ensures content { IfOk result (λ cell. scalar_content cell ≡ null) }
-    ensures valid { IfOk result IsValid }
+    ensures typed { OnOk result (scalar_type cell.new ≡ column_type column) }
+    ensures content { OnOk result (scalar_content cell.new ≡ null) }
+    ensures valid { OnOk result (IsValid cell.new) }
 {
     let dtype = dtype_of(alloc, column)?;
-    Ok(Scalar::null(dtype))
+    *cell = Scalar::null(dtype);
+    Ok(())
 }
 
-/// The cell that a word is, if its column takes it.
-fn value_of(alloc: Global, column: ColumnType, word: &[u8]) -> Result<Option<Scalar>, AllocError>
-    ensures { IfOk result (λ cell. MatchOption cell
-        (HasNoValue column word.now) (IsValueCell column word.now)) }
+/// Puts the cell that a word is at this place, and says whether its column takes it.
+fn put_value(
+    alloc: Global,
+    column: ColumnType,
+    word: &[u8],
+    cell: &mut Scalar,
+) -> Result<bool, AllocError>
+    ensures { IfOk result (λ taken. MatchBool taken
+        (IsValueCell column word.now cell.new) (HasNoValue column word.now)) }
 {
     match column.kind {
-        Kind::Integer(ptype) => Ok(integer_cell(ptype, column.nullability, word)),
-        Kind::Utf8 => text_cell(alloc, column.nullability, word),
-        Kind::Binary => binary_cell(alloc, column.nullability, word),
-        Kind::Bytes => Ok(Some(bytes_cell(alloc, column.nullability, word)?)),
-        Kind::Logical(logical) => logical_cell(alloc, logical, column.nullability, word),
+        Kind::Integer(ptype) => Ok(put_integer(ptype, column.nullability, word, cell)),
+        Kind::Utf8 => put_text(alloc, column.nullability, word, cell),
+        Kind::Binary => put_binary(alloc, column.nullability, word, cell),
+        Kind::Bytes => {
+            put_bytes(alloc, column.nullability, word, cell)?;
+            Ok(true)
+        }
+        Kind::Logical(logical) => put_logical(alloc, logical, column.nullability, word, cell),
     }
 }
 
-/// The number that a word is.
-fn integer_cell(ptype: PType, nullability: Nullability, word: &[u8]) -> Option<Scalar>
-    ensures { MatchOption result ((z : ℤ) → ¬ (IsIntegerWord ptype word.now z))
-        (IsIntegerCell ptype nullability word.now) }
+/// Puts the number that a word is at this place, and says whether it is one.
+fn put_integer(ptype: PType, nullability: Nullability, word: &[u8], cell: &mut Scalar) -> bool
+    ensures { MatchBool result (IsIntegerCell ptype nullability word.now cell.new)
+        ((z : ℤ) → ¬ (IsIntegerWord ptype word.now z)) }
 {
     match integer_of(word, ptype) {
         Some(value) => match Scalar::primitive_value(value, ptype, nullability) {
-            Ok(cell) => Some(cell),
+            Ok(made) => {
+                *cell = made;
+                true
+            }
             Err(_) => unreachable!(),
         },
-        None => None,
+        None => false,
     }
 }
 
-/// The string that a word is.
-fn text_cell(
+/// Puts the string that a word is at this place, and says whether it is one.
+fn put_text(
     alloc: Global,
     nullability: Nullability,
     word: &[u8],
-) -> Result<Option<Scalar>, AllocError>
-    ensures { IfOk result (λ cell. MatchOption cell (¬ (IsUtf8 word.now))
-        (IsTextCell nullability word.now)) }
+    cell: &mut Scalar,
+) -> Result<bool, AllocError>
+    ensures { IfOk result (λ taken. MatchBool taken
+        (IsTextCell nullability word.now cell.new) (¬ (IsUtf8 word.now))) }
 {
     let Ok(buffer) = ByteBuffer::from_slice(alloc, word) else {
         return Err(AllocError);
     };
     match Scalar::try_utf8(buffer, nullability) {
-        Ok(cell) => Ok(Some(cell)),
-        Err(_) => Ok(None),
+        Ok(made) => {
+            *cell = made;
+            Ok(true)
+        }
+        Err(_) => Ok(false),
     }
 }
 
-/// The bytes that a word is.
-fn binary_cell(
+/// Puts the bytes that a word is in hexadecimal at this place, and says whether it is some.
+fn put_binary(
     alloc: Global,
     nullability: Nullability,
     word: &[u8],
-) -> Result<Option<Scalar>, AllocError>
-    ensures { IfOk result (λ cell. MatchOption cell
-        ((bytes : List ℕ) → ¬ (decode_of word.now ≡ Ok bytes)) (IsBinaryCell nullability word.now)) }
+    cell: &mut Scalar,
+) -> Result<bool, AllocError>
+    ensures { IfOk result (λ taken. MatchBool taken (IsBinaryCell nullability word.now cell.new)
+        ((bytes : List ℕ) → ¬ (decode_of word.now ≡ Ok bytes))) }
 {
     match decode(alloc, word) {
         Ok(bytes) => {
             let Ok(buffer) = ByteBuffer::from_slice(alloc, &bytes) else {
                 return Err(AllocError);
             };
-            Ok(Some(Scalar::binary(buffer, nullability)))
+            *cell = Scalar::binary(buffer, nullability);
+            Ok(true)
         }
         Err(FromHexError::OutOfMemory) => Err(AllocError),
-        Err(_) => Ok(None),
+        Err(_) => Ok(false),
     }
 }
 
-/// The bytes of a word.
-fn bytes_cell(alloc: Global, nullability: Nullability, word: &[u8]) -> Result<Scalar, AllocError>
-    ensures { IfOk result (IsBytesCell nullability word.now) }
+/// Puts the bytes of a word at this place.
+fn put_bytes(
+    alloc: Global,
+    nullability: Nullability,
+    word: &[u8],
+    cell: &mut Scalar,
+) -> Result<(), AllocError>
+    ensures { OnOk result (IsBytesCell nullability word.now cell.new) }
 {
     let Ok(buffer) = ByteBuffer::from_slice(alloc, word) else {
         return Err(AllocError);
     };
-    Ok(Scalar::binary(buffer, nullability))
+    *cell = Scalar::binary(buffer, nullability);
+    Ok(())
 }
 
-/// The value of a logical type that a word writes.
-fn logical_cell(
+/// Puts the value of a logical type that a word writes at this place, and says whether it writes one.
+fn put_logical(
     alloc: Global,
     logical: LogicalType,
     nullability: Nullability,
     word: &[u8],
-) -> Result<Option<Scalar>, AllocError>
-    ensures { IfOk result (λ cell. MatchOption cell ((z : ℤ) → ¬ (Writes logical word.now z))
-        (IsLogicalCell logical nullability word.now)) }
+    cell: &mut Scalar,
+) -> Result<bool, AllocError>
+    ensures { IfOk result (λ taken. MatchBool taken (IsLogicalCell logical nullability word.now cell.new)
+        ((z : ℤ) → ¬ (Writes logical word.now z))) }
 {
     match scalar_of_word(alloc, logical, word, nullability) {
-        Ok(cell) => Ok(cell),
+        Ok(Some(made)) => {
+            *cell = made;
+            Ok(true)
+        }
+        Ok(None) => Ok(false),
         Err(_) => Err(AllocError),
     }
 }

@@ -148,6 +148,7 @@ impl<'a> FieldWalk<'a> {
     }
 
     /// Passes over the fields for which there is no column, if it may. No other row follows them.
+    #[inline(always)]
     fn end_of_fields(&mut self, buffer: &mut Vec<u8>) -> Result<Option<&'a [u8]>, RowReadError>
         requires { length self.old.columns.now ≤ self.old.place }
         ensures end { IfOk result (λ start. MatchOption start (EndsFields self.old self.new) (λ _. ⊥)) }

@@ -21,17 +21,15 @@ use vortex_statistics::{Bound, ColumnStatistics};
 use vortex_value::ScalarValue;
 use vortex_value::laws::{order_is_reversed, order_is_transitive};
 
-/// Observes the cell of a word without a scalar of it, and says whether it did. It tries so where the bounds
-/// are of the column's type, with a value within both, and with one above them that an integer stores. Else
-/// nothing has changed.
+/// Observes the cell of a word without a scalar of it, and says whether it did: of a value within both bounds,
+/// and of one above them that an integer stores. Else nothing has changed.
 pub(crate) fn observe_in_place(
     reading: &FieldReading,
     column: ColumnType,
     word: &[u8],
     statistics: &mut ColumnStatistics,
-    is_typed: bool,
 ) -> bool
-    requires { is_typed ≡ true → HasBoundsOf (column_type column) (known statistics.old) }
+    requires { HasBoundsOf (column_type column) (known statistics.old) }
     ensures observed { result ≡ true →
         ObservesWord reading.now column word.now (known statistics.old) (known statistics.new) }
     ensures valid { KeepsValid statistics.old statistics.new }
@@ -39,9 +37,6 @@ pub(crate) fn observe_in_place(
 {
     order_is_reversed();
     order_is_transitive();
-    if !is_typed {
-        return false;
-    }
     if word.is_empty() || reading.has_null(word) {
         return false;
     }

@@ -21,7 +21,7 @@ mod words;
 
 pub use errors::{ObserveError, RowReadError};
 pub use logical_types::{DecimalType, LogicalType, TimeUnit};
-pub use observing::{RowNotes, observe_record, observe_typed_record};
+pub use observing::{RowNotes, observe_record};
 pub use rows::{read_cells, read_row};
 pub use schema::{ColumnType, FieldReading, Kind, Schema, dtype_of};
 pub use texts::{csv_rows, is_whole_record, may_cut, split_records};

@@ -14,7 +14,7 @@ use crate::errors::{ObserveError, RowReadError};
 use crate::fields::{ColumnField, FieldWalk};
 use crate::in_place::observe_in_place;
 use crate::schema::{FieldReading, Schema};
-use crate::taking::{one_more, take_field};
+use crate::taking::{no_cell, one_more, take_field};
 use csv_records::row_start;
 use std::alloc::Global;
 use vortex_statistics::ColumnStatistics;
@@ -31,7 +31,9 @@ pub struct RowNotes {
 
 /// Observes the row of a record, each cell by the statistics of its column; `None` if it has no
 /// row. What they say then, they say of the record too: they are right if they were, and their bounds
-/// are valid scalars if they were.
+/// are valid scalars if they were. The bounds are of the types of their columns, as those of no rows
+/// are, and stay so. So a value that becomes no bound is mostly observed without a scalar of it, which
+/// takes a third of the instructions.
 ///
 /// `TooManyRows` of a record with a row exactly if the statistics of a column count as many rows as
 /// 64 bits can, which is tested before its fields are. After another refusal some cells may have been
@@ -41,29 +43,6 @@ pub struct RowNotes {
 /// nulls, and so is one that is missing; fields behind those of the last column are passed over. That is
 /// noted. The buffer is used again.
 pub fn observe_record(
-    alloc: Global,
-    schema: &Schema,
-    line: &[u8],
-    buffer: &mut Vec<u8>,
-    statistics: &mut [ColumnStatistics],
-) -> Result<Option<RowNotes>, ObserveError>
-    requires { length statistics.old ≡ length schema.now.columns.items }
-    ensures observed { IfOk result (λ notes. MatchOption notes
-        ((rows_of schema.now.delimiter.byte line.now ≡ []) × (statistics.new ≡ statistics.old))
-        (IsObserved schema.now.delimiter.byte schema.now.reading schema.now.columns.items line.now
-        statistics.old statistics.new)) }
-    ensures length { length statistics.new ≡ length statistics.old }
-    ensures refused { IfErr result (IsNotObserved (Refuses schema.now.delimiter.byte
-        schema.now.reading schema.now.columns.items line.now) (SomeIsFull statistics.old)) }
-    ensures full { SomeIsFull statistics.old → IfErr result (λ fault. fault ≡ TooManyRows) }
-{
-    observe_row(alloc, schema, line, buffer, statistics, false)
-}
-
-/// Observes the row of a record as `observe_record` does, where the bounds are of the types of their columns, as
-/// those of no rows are. They stay so. Then a value that becomes no bound is mostly observed without a scalar of
-/// it, which takes a third of the instructions.
-pub fn observe_typed_record(
     alloc: Global,
     schema: &Schema,
     line: &[u8],
@@ -82,30 +61,6 @@ pub fn observe_typed_record(
         schema.now.reading schema.now.columns.items line.now) (SomeIsFull statistics.old)) }
     ensures full { SomeIsFull statistics.old → IfErr result (λ fault. fault ≡ TooManyRows) }
 {
-    observe_row(alloc, schema, line, buffer, statistics, true)
-}
-
-/// Observes the row of a record, where the bounds may be said to be of the types of their columns.
-fn observe_row(
-    alloc: Global,
-    schema: &Schema,
-    line: &[u8],
-    buffer: &mut Vec<u8>,
-    statistics: &mut [ColumnStatistics],
-    are_typed: bool,
-) -> Result<Option<RowNotes>, ObserveError>
-    requires long { length statistics.old ≡ length schema.now.columns.items }
-    requires typed { are_typed ≡ true → HaveTypes schema.now.columns.items statistics.old }
-    ensures observed { IfOk result (λ notes. MatchOption notes
-        ((rows_of schema.now.delimiter.byte line.now ≡ []) × (statistics.new ≡ statistics.old))
-        (IsObserved schema.now.delimiter.byte schema.now.reading schema.now.columns.items line.now
-        statistics.old statistics.new)) }
-    ensures typed { OnOk result (are_typed ≡ true → HaveTypes schema.now.columns.items statistics.new) }
-    ensures length { length statistics.new ≡ length statistics.old }
-    ensures refused { IfErr result (IsNotObserved (Refuses schema.now.delimiter.byte
-        schema.now.reading schema.now.columns.items line.now) (SomeIsFull statistics.old)) }
-    ensures full { SomeIsFull statistics.old → IfErr result (λ fault. fault ≡ TooManyRows) }
-{
     let start = row_start(line);
     if start.is_empty() {
         return Ok(None);
@@ -113,7 +68,7 @@ fn observe_row(
     if is_some_full(statistics) {
         return Err(ObserveError::TooManyRows);
     }
-    let notes = observe_fields(alloc, schema, start, buffer, statistics, are_typed)?;
+    let notes = observe_fields(alloc, schema, start, buffer, statistics)?;
     Ok(Some(notes))
 }
 
@@ -137,14 +92,13 @@ fn observe_fields(
     text: &[u8],
     buffer: &mut Vec<u8>,
     statistics: &mut [ColumnStatistics],
-    are_typed: bool,
 ) -> Result<RowNotes, RowReadError>
     requires many { length statistics.old ≡ length schema.now.columns.items }
     requires few { ¬ (SomeIsFull statistics.old) }
-    requires typed { are_typed ≡ true → HaveTypes schema.now.columns.items statistics.old }
+    requires typed { HaveTypes schema.now.columns.items statistics.old }
     ensures fields { IfOk result (AreObserved schema.now.delimiter.byte schema.now.reading
         schema.now.columns.items text.now statistics.old statistics.new) }
-    ensures typed { OnOk result (are_typed ≡ true → HaveTypes schema.now.columns.items statistics.new) }
+    ensures typed { OnOk result (HaveTypes schema.now.columns.items statistics.new) }
     ensures length { length statistics.new ≡ length statistics.old }
     ensures refused { IfErr result (RefusesFields schema.now.delimiter.byte schema.now.reading
         schema.now.columns.items text.now) }
@@ -152,13 +106,7 @@ fn observe_fields(
     let mut refused = 0;
     let mut walk = FieldWalk::of(schema, text);
     while let Some(field) = walk.next_field(buffer)? {
-        let flag = observe_field(
-            alloc,
-            &schema.reading,
-            &field,
-            &mut statistics[field.place],
-            are_typed,
-        )?;
+        let flag = observe_field(alloc, &schema.reading, &field, &mut statistics[field.place])?;
         refused = one_more(refused, flag);
     }
     Ok(RowNotes {
@@ -168,24 +116,42 @@ fn observe_fields(
 }
 
 /// Observes the cell of a field, and says whether a null stands in its place.
+#[inline(always)]
 fn observe_field(
     alloc: Global,
     reading: &FieldReading,
     field: &ColumnField<'_>,
     statistics: &mut ColumnStatistics,
-    is_typed: bool,
 ) -> Result<bool, RowReadError>
     requires few { ¬ (IsFull statistics.old) }
-    requires typed { is_typed ≡ true → HasBoundsOf (column_type field.now.column) (known statistics.old) }
+    requires typed { HasBoundsOf (column_type field.now.column) (known statistics.old) }
     ensures observed { IfOk result (ObservesField reading.now field.now.column (field_of field.now)
         (known statistics.old) (known statistics.new)) }
     ensures valid { OnOk result (KeepsValid statistics.old statistics.new) }
     ensures refused { IfErr result (RefusesWord reading.now field.now.column field.now.place (field_of field.now)) }
 {
-    if observe_in_place(reading, field.column, field.word, statistics, is_typed) {
+    if observe_in_place(reading, field.column, field.word, statistics) {
         return Ok(false);
     }
-    let (cell, flag) = take_field(alloc, reading, field)?;
+    observe_taken(alloc, reading, field, statistics)
+}
+
+/// Observes the cell of a field by a scalar of it, and says whether a null stands in its place.
+#[inline(never)]
+fn observe_taken(
+    alloc: Global,
+    reading: &FieldReading,
+    field: &ColumnField<'_>,
+    statistics: &mut ColumnStatistics,
+) -> Result<bool, RowReadError>
+    requires { ¬ (IsFull statistics.old) }
+    ensures observed { IfOk result (ObservesField reading.now field.now.column (field_of field.now)
+        (known statistics.old) (known statistics.new)) }
+    ensures valid { OnOk result (KeepsValid statistics.old statistics.new) }
+    ensures refused { IfErr result (RefusesWord reading.now field.now.column field.now.place (field_of field.now)) }
+{
+    let mut cell = no_cell();
+    let flag = take_field(alloc, reading, field, &mut cell)?;
     match statistics.observe(alloc, ScalarRef::of(&cell)) {
         Ok(()) => Ok(flag),
         Err(_) => Err(RowReadError::Memory),

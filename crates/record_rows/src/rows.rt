@@ -1,6 +1,8 @@
 //! The row of a record.
 
-ghost use Rattle.std.specs.Prelude.{◌≡◌, ◌∷◌, ◌++◌, ◌+◌, ◌≤◌, [], IfErr, IfOk, MatchOption, OnOk, length, take, true};
+ghost use Rattle.std.specs.Prelude.{◌≡◌, ◌∷◌, ◌++◌, ◌+◌, ◌≤◌, [], IfErr, IfOk, MatchOption, None, OnOk, length};
+ghost use Rattle.std.specs.Prelude.{take, true};
+ghost use Rattle.vortex_dtype.specs.declared.types.DType.TheVariants.{Null};
 ghost use Rattle.csv_records.specs.Rows.{rows_of};
 ghost use Rattle.record_rows.specs.Rows.{HasFields, IsRow, IsRowIn, PushesCell, ReachesPast, Refuses, RefusesFields};
 ghost use Rattle.record_rows.specs.Rows.{RefusesWord, is_wanted};
@@ -9,10 +11,9 @@ ghost use Rattle.record_rows.specs.Walks.{field_of};
 use crate::errors::RowReadError;
 use crate::fields::{ColumnField, FieldWalk};
 use crate::schema::{FieldReading, Schema};
-use crate::taking::{one_more, take_field, test_field};
+use crate::taking::{no_cell, one_more, take_field, test_field};
 use csv_records::row_start;
-use std::alloc::{AllocFailed, Global};
-use vortex_dtype::DType;
+use std::alloc::{AllocError, Global};
 use vortex_value::Scalar;
 
 /// Reads the row of a record; `None` if it has no row, as an empty line.
@@ -82,7 +83,7 @@ fn read_fields(
     let mut walk = FieldWalk::of(schema, text);
     while let Some(field) = walk.next_field(&mut buffer)? {
         let keeps = is_wanted(wanted, field.place);
-        let flag = put_cell(alloc, &schema.reading, &field, keeps, row)?;
+        let flag = put_at(alloc, &schema.reading, &field, keeps, row)?;
         refused = one_more(refused, flag);
     }
     Ok(refused)
@@ -101,7 +102,8 @@ fn is_wanted(wanted: &[bool], place: usize) -> bool
 
 /// Puts the cell of a field at its place if it is wanted, and says whether a null stands there
 /// instead. Else any scalar stands there, as one of an earlier record.
-fn put_cell(
+#[inline(always)]
+fn put_at(
     alloc: Global,
     reading: &FieldReading,
     field: &ColumnField<'_>,
@@ -114,44 +116,37 @@ fn put_cell(
     ensures reaches { OnOk result (ReachesPast field.now.place row.old.items row.new.items) }
     ensures refused { IfErr result (RefusesWord reading.now field.now.column field.now.place (field_of field.now)) }
 {
+    fill_at(row, field.place)?;
     if keeps {
-        let (cell, flag) = take_field(alloc, reading, field)?;
-        put_at(row, field.place, cell)?;
+        let flag = take_field(alloc, reading, field, &mut row[field.place])?;
         Ok(flag)
     } else {
         let flag = test_field(alloc, reading, field)?;
-        fill_at(row, field.place)?;
         Ok(flag)
-    }
-}
-
-/// Puts a cell at its place: where another stands, or behind the last.
-fn put_at(row: &mut Vec<Scalar>, place: usize, cell: Scalar) -> Result<(), AllocFailed<Scalar>>
-    requires { place ≤ length row.old.items }
-    ensures put { OnOk result (take (place + 1) row.new.items ≡ take place row.old.items ++ cell ∷ []) }
-    ensures reaches { OnOk result (ReachesPast place row.old.items row.new.items) }
-{
-    if place < row.len() {
-        row[place] = cell;
-        Ok(())
-    } else {
-        row.push(cell)
     }
 }
 
 /// Sees that some scalar stands at a place.
-fn fill_at(row: &mut Vec<Scalar>, place: usize) -> Result<(), AllocFailed<Scalar>>
+#[inline(always)]
+fn fill_at(row: &mut Vec<Scalar>, place: usize) -> Result<(), AllocError>
     requires { place ≤ length row.old.items }
     ensures put { OnOk result ((cell : Scalar) × (take (place + 1) row.new.items ≡
         take place row.old.items ++ cell ∷ [])) }
+    ensures kept { OnOk result (take place row.new.items ≡ take place row.old.items) }
     ensures reaches { OnOk result (ReachesPast place row.old.items row.new.items) }
 {
     if place < row.len() {
         Ok(())
     } else {
-        row.push(Scalar {
-            dtype: DType::Null,
-            value: None,
-        })
+        push_any(row)
     }
+}
+
+/// Puts some scalar behind the last.
+#[inline(never)]
+fn push_any(row: &mut Vec<Scalar>) -> Result<(), AllocError>
+    ensures { OnOk result (row.new.items ≡ row.old.items ++ record { dtype = Null; value = None } ∷ []) }
+{
+    row.push(no_cell())?;
+    Ok(())
 }

@@ -73,6 +73,7 @@ impl FieldReading {
     }
 
     /// Whether a word is one of those that are nulls, beside the empty one.
+    #[inline(always)]
     pub fn has_null(&self, word: &[u8]) -> bool
         ensures { result ≡ is_null_word self.now.nulls word.now }
     {
@@ -81,6 +82,7 @@ impl FieldReading {
 }
 
 /// Whether a word is one of these.
+#[inline(always)]
 fn stands_in(words: &[Vec<u8>], word: &[u8]) -> bool
     ensures { result ≡ is_null_word (map (λ one. one.items) words.now) word.now }
 {

@@ -1,42 +1,62 @@
 //! What a column takes of a field.
 
-ghost use Rattle.std.specs.Prelude.{◌≡◌, ◌+◌, ◌-◌, ◌<◌, ◌^◌, IfErr, IfOk, false, true, if◌then◌else◌};
+ghost use Rattle.std.specs.Prelude.{◌≡◌, ◌+◌, ◌-◌, ◌<◌, ◌^◌, IfErr, IfOk, None, false, true};
+ghost use Rattle.std.specs.Prelude.{if◌then◌else◌};
+ghost use Rattle.vortex_dtype.specs.declared.types.DType.TheVariants.{Null};
 ghost use Rattle.vortex_dtype.specs.declared.nullability.Nullability.TheVariants.{Nullable};
 ghost use Rattle.record_rows.specs.Rows.{IsStrict, IsTaken, IsTested, IsWordError, RefusesWord};
 ghost use Rattle.record_rows.specs.Walks.{field_of};
 
-use crate::cells::{cell_of, is_taken, null_of};
+use crate::cells::{is_taken, put_cell, put_null};
 use crate::errors::RowReadError;
 use crate::fields::ColumnField;
 use crate::schema::{ColumnType, FieldReading};
 use std::alloc::Global;
-use vortex_dtype::Nullability;
+use vortex_dtype::{DType, Nullability};
 use vortex_value::Scalar;
 
-/// The cell of a field, or a null in its place, and whether it is such a null.
+/// Puts the cell of a field at this place, or a null for it, and says whether it is such a null.
 #[inline(always)]
 pub(crate) fn take_field(
     alloc: Global,
     reading: &FieldReading,
     field: &ColumnField<'_>,
-) -> Result<(Scalar, bool), RowReadError>
-    ensures taken { IfOk result (λ taken.
-        IsTaken reading.now field.now.column (field_of field.now) taken.0 taken.1) }
+    cell: &mut Scalar,
+) -> Result<bool, RowReadError>
+    ensures taken { IfOk result (IsTaken reading.now field.now.column (field_of field.now) cell.new) }
     ensures refused { IfErr result (RefusesWord reading.now field.now.column field.now.place (field_of field.now)) }
 {
-    match cell_of(alloc, reading, field.column, field.word, field.is_quoted)? {
-        Some(cell) => Ok((cell, false)),
-        None => {
-            if !may_be_null(reading, field.column) {
-                return Err(word_fault(alloc, field));
-            }
-            let null = null_of(alloc, field.column)?;
-            Ok((null, true))
-        }
+    let is_taken = put_cell(
+        alloc,
+        reading,
+        field.column,
+        field.word,
+        field.is_quoted,
+        cell,
+    )?;
+    if is_taken {
+        Ok(false)
+    } else if may_be_null(reading, field.column) {
+        put_null(alloc, field.column, cell)?;
+        Ok(true)
+    } else {
+        Err(word_fault(alloc, field.place, field.word))
+    }
+}
+
+/// A scalar that stands where a cell is to be put.
+#[inline(always)]
+pub(crate) fn no_cell() -> Scalar
+    ensures { result ≡ record { dtype = Null; value = None } }
+{
+    Scalar {
+        dtype: DType::Null,
+        value: None,
     }
 }
 
 /// Whether a null is to stand in place of the cell of a field.
+#[inline(always)]
 pub(crate) fn test_field(
     alloc: Global,
     reading: &FieldReading,
@@ -50,7 +70,7 @@ pub(crate) fn test_field(
     } else if may_be_null(reading, field.column) {
         Ok(true)
     } else {
-        Err(word_fault(alloc, field))
+        Err(word_fault(alloc, field.place, field.word))
     }
 }
 
@@ -66,13 +86,14 @@ fn may_be_null(reading: &FieldReading, column: ColumnType) -> bool
     }
 }
 
-/// The error of a field that its column does not take.
-fn word_fault(alloc: Global, field: &ColumnField<'_>) -> RowReadError
-    ensures { IsWordError field.now.place field.now.word.now result }
+/// The error of a word that its column does not take.
+#[inline(never)]
+fn word_fault(alloc: Global, place: usize, word: &[u8]) -> RowReadError
+    ensures { IsWordError place word.now result }
 {
-    match Vec::from_slice(alloc, field.word) {
+    match Vec::from_slice(alloc, word) {
         Ok(word) => RowReadError::Word {
-            column: field.place,
+            column: place,
             word,
         },
         Err(_) => RowReadError::Memory,

@@ -102,6 +102,7 @@ pub fn is_whole_record(alloc: Global, delimiter: Delimiter, line: &[u8]) -> Resu
 
 /// Whether a text has one row. It begins where a field does. The buffer takes the bytes of fields in
 /// quotes.
+#[inline(never)]
 pub(crate) fn is_only_row(
     delimiter: Delimiter,
     text: &[u8],

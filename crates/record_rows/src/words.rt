@@ -13,6 +13,7 @@ use vortex_pvalue::PValue;
 const MOST_DIGITS: usize = 19;
 
 /// Whether a word is a number of this type.
+#[inline(always)]
 pub(crate) fn is_integer(word: &[u8], ptype: PType) -> bool
     ensures { MatchBool result ((z : ℤ) × IsIntegerWord ptype word.now z)
         ((z : ℤ) → ¬ (IsIntegerWord ptype word.now z)) }

@@ -1,67 +1,23 @@
--- What a formula says of a row depends on the columns alone that it names.
-use Rattle.std.proofs.Common.{◌≡◌, ℕ, zero, suc, ◌+◌, List, [], ◌∷◌, Bool, true, false, Option, None, Some, refl, sym, ap, ap₂, ◌∙◌, subst, map, arith, set}
+-- What a formula says of a record, from the cells of the columns that it names.
+use Rattle.std.proofs.Common.{◌≡◌, ℕ, zero, suc, ◌+◌, List, [], ◌∷◌, Bool, true, false, Option, None, Some, refl, sym, ap, ◌∙◌, subst, map, arith, inl, inr, replicate}
+use Rattle.std.proofs.lemmas.Bool.{cases_lt}
+use Rattle.std.proofs.lemmas.List.{get_or_default, get_or_past, length-replicate}
 use Rattle.record_rows.specs.Cells.{column_type}
 use Rattle.record_rows.specs.Readings.{Reading, is_null_field}
 use Rattle.record_rows.specs.Rows.{AreCellsIn, IsRowIn, IsTakenIf, fitted, is_wanted}
 use Rattle.record_rows.specs.declared.schema.ColumnType.{ColumnType}
 use Rattle.csv_records.specs.Rows.{Field}
-use Rattle.vortex_filter.specs.Formula.{Formula, both, cell_at, compare_truth, comparison, constant, either, member_truth, membership, negation, null_test, null_truth, prefix_test, range, range_truth, truth}
-use Rattle.vortex_filter.specs.Prefixes.{prefix_truth}
-use Rattle.vortex_filter.specs.Truths.{is_true, truth_and, truth_not, truth_or}
+use Rattle.vortex_filter.specs.Formula.{Formula, cell_at}
+use Rattle.vortex_filter.specs.Named.{AreMarked, IsNamed, NamedColumnsDecide}
+use Rattle.vortex_filter.specs.Truths.{is_true}
 use Rattle.vortex_cells.specs.Cells.{Cell, cell_of}
 use Rattle.vortex_value.specs.Values.Content.{Content, null}
 use Rattle.vortex_value.specs.Values.Scalars.{scalar_content}
 use Rattle.vortex_value.specs.declared.scalars.Scalar.{Scalar}
 use Rattle.record_search.specs.Contents.{cells_of, field_content, only_row, row_of}
-use Rattle.vortex_filter.specs.Named.{with_columns}
-use Rattle.record_search.specs.Named.{AgreeAsRows, AgreeIn}
+use Rattle.record_search.specs.Named.{AgreeAsRows}
 use Rattle.record_search.specs.Searched.{matches_row}
 use Rattle.record_search.proofs.RowLaws.{WordsSay, cell_field, cell_made, null_field, taken_field}
-
--- ---- flags
-
-set_there : (flags : List Bool) (k : ℕ) → is_wanted (set flags k true) k ≡ true
-set_there [] k = refl
-set_there (b ∷ flags) zero = refl
-set_there (b ∷ flags) (suc k) = set_there flags k
-
-set_kept : (flags : List Bool) (j k : ℕ) → is_wanted flags k ≡ true → is_wanted (set flags j true) k ≡ true
-set_kept [] j k e = refl
-set_kept (b ∷ flags) zero zero e = refl
-set_kept (b ∷ flags) zero (suc k) e = e
-set_kept (b ∷ flags) (suc j) zero e = e
-set_kept (b ∷ flags) (suc j) (suc k) e = set_kept flags j k e
-
-columns_kept : (f : Formula) (flags : List Bool) (k : ℕ) → is_wanted flags k ≡ true → is_wanted (with_columns f flags) k ≡ true
-columns_kept (constant t) flags k e = e
-columns_kept (comparison j op literal) flags k e = set_kept flags j k e
-columns_kept (null_test j) flags k e = set_kept flags j k e
-columns_kept (membership j literals) flags k e = set_kept flags j k e
-columns_kept (range j lower upper) flags k e = set_kept flags j k e
-columns_kept (prefix_test j prefix) flags k e = set_kept flags j k e
-columns_kept (both p q) flags k e = columns_kept q (with_columns p flags) k (columns_kept p flags k e)
-columns_kept (either p q) flags k e = columns_kept q (with_columns p flags) k (columns_kept p flags k e)
-columns_kept (negation p) flags k e = columns_kept p flags k e
-
--- ---- truth
-
--- rows that agree in the columns that the formula names have the same truth
-same_truth : (f : Formula) (flags : List Bool) (xs ys : List Cell) → AgreeIn (with_columns f flags) xs ys → truth f xs ≡ truth f ys
-same_truth (constant t) flags xs ys h = refl
-same_truth (comparison k op literal) flags xs ys h = ap (λ (x : Cell). compare_truth op x literal) (h k (set_there flags k))
-same_truth (null_test k) flags xs ys h = ap null_truth (h k (set_there flags k))
-same_truth (membership k literals) flags xs ys h = ap (λ (x : Cell). member_truth x literals) (h k (set_there flags k))
-same_truth (range k lower upper) flags xs ys h = ap (λ (x : Cell). range_truth x lower upper) (h k (set_there flags k))
-same_truth (prefix_test k prefix) flags xs ys h = ap (λ (x : Cell). prefix_truth x prefix) (h k (set_there flags k))
-same_truth (both p q) flags xs ys h = ap₂ truth_and (same_truth p flags xs ys (λ k e. h k (columns_kept q (with_columns p flags) k e))) (same_truth q (with_columns p flags) xs ys h)
-same_truth (either p q) flags xs ys h = ap₂ truth_or (same_truth p flags xs ys (λ k e. h k (columns_kept q (with_columns p flags) k e))) (same_truth q (with_columns p flags) xs ys h)
-same_truth (negation p) flags xs ys h = ap truth_not (same_truth p flags xs ys h)
-
-pub same_match : (f : Formula) (flags : List Bool) (xs ys : Option (List Cell)) → AgreeAsRows (with_columns f flags) xs ys → matches_row f xs ≡ matches_row f ys
-same_match f flags None None h = refl
-same_match f flags None (Some ys) h = absurd h
-same_match f flags (Some xs) None h = absurd h
-same_match f flags (Some xs) (Some ys) h = ap is_true (same_truth f flags xs ys h)
 
 -- ---- rows of which some cells are wanted
 
@@ -112,6 +68,22 @@ row_agrees say w d l columns line row n h =
     let is : row_of d l columns line ≡ Some read.cells = ap (only_row l columns) h.is ∙ read.is in
     subst (AgreeAsRows w (Some (map cell_of row))) (sym is) (λ k t. read.agree k k (omega arith) t)
 
+-- ---- truth
+
+-- a column that the formula names is wanted, of flags that none was before
+named_wanted : (f : Formula) (n k : ℕ) (flags : List Bool) → AreMarked f (replicate n false) flags → IsNamed f k → is_wanted flags k ≡ true
+named_wanted f n k flags marked named = elim (cases_lt k n) [
+  | inl l ↦
+      let many = length-replicate n false in
+      get_or_default flags k true false (omega (arith, marked.as_many, many)) ∙ (marked.flags k (omega (arith, many))).1 (inr named)
+  | inr l ↦ get_or_past flags k true (omega (arith, marked.as_many, length-replicate n false))
+]
+
 -- the truth on such a row is that on the record's
-pub match_is : (f : Formula) (flags wanted : List Bool) (row there : Option (List Cell)) → wanted ≡ with_columns f flags → AgreeAsRows wanted row there → matches_row f row ≡ matches_row f there
-match_is f flags wanted row there e h = same_match f flags row there (subst (λ (w : List Bool). AgreeAsRows w row there) e h)
+pub match_is : NamedColumnsDecide → (f : Formula) (n : ℕ) (wanted flags : List Bool) (row there : Option (List Cell)) → wanted ≡ flags → AreMarked f (replicate n false) flags → AgreeAsRows wanted row there
+    → matches_row f row ≡ matches_row f there
+match_is decide f n wanted flags None None e marked h = refl
+match_is decide f n wanted flags None (Some ys) e marked h = absurd h
+match_is decide f n wanted flags (Some xs) None e marked h = absurd h
+match_is decide f n wanted flags (Some xs) (Some ys) e marked h =
+    ap is_true (decide f xs ys (λ k named. h k (ap (λ w. is_wanted w k) e ∙ named_wanted f n k flags marked named)))

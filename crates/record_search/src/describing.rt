@@ -13,7 +13,7 @@ ghost use Rattle.record_search.specs.Words.{longer_under, nulls_under, row_under
 use crate::schema::{Schema, record_fault};
 use csv_records::{Delimiter, cut_record};
 use logical_types::laws::shapes_say_words;
-use record_rows::{ObserveError, observe_typed_record};
+use record_rows::{ObserveError, observe_record};
 use statistics_bytes::append_statistics;
 use std::alloc::{AllocError, Global};
 use vortex_statistics::ColumnStatistics;
@@ -157,7 +157,7 @@ fn observe_line(
     ensures right { IfErr result (IfRecordRefused (λ _. is_refused schema.now line.now ≡ true)) }
 {
     shapes_say_words();
-    match observe_typed_record(alloc, schema, line, buffer, statistics) {
+    match observe_record(alloc, schema, line, buffer, statistics) {
         Ok(Some(notes)) => Ok((true, notes.refused as u64, u64::from(notes.is_longer))),
         Ok(None) => Ok((false, 0, 0)),
         Err(ObserveError::Row(error)) => Err(record_fault(place, error)),

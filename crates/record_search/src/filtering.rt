@@ -12,6 +12,7 @@ use csv_records::Delimiter;
 use filter_pruning::{Outcomes, outcomes_of};
 use std::alloc::{AllocError, Global};
 use vortex_filter::Filter;
+use vortex_filter::laws::named_columns_decide;
 use vortex_value::Scalar;
 use zone_index::{Decision, Matcher, RecordError, Records};
 
@@ -69,6 +70,7 @@ impl Matcher for RowFilter<'_> {
         scratch: &mut RowScratch,
         line: &[u8],
     ) -> Result<bool, RecordError> {
+        named_columns_decide();
         let RowScratch { named, row } = scratch;
         mark_named(self.filter, self.schema.columns.len(), named)?;
         let has_row = cells_of_record(alloc, self.schema, 0, named, line, row)?;

@@ -1,7 +1,7 @@
 //! The columns that a filter names.
 
-ghost use Rattle.std.specs.Prelude.{◌≡◌, IfOk, OnOk, false, replicate};
-ghost use Rattle.record_search.specs.Words.{formula, with_columns};
+ghost use Rattle.std.specs.Prelude.{IfOk, OnOk, false, replicate};
+ghost use Rattle.record_search.specs.Words.{AreMarked, formula};
 
 use std::alloc::{AllocError, Global};
 use vortex_filter::Filter;
@@ -12,7 +12,7 @@ pub fn named_columns(
     filter: &Filter,
     columns: usize,
 ) -> Result<Vec<bool>, AllocError>
-    ensures { IfOk result (λ named. named.items ≡ with_columns (formula filter.now) (replicate columns false)) }
+    ensures { IfOk result (λ named. AreMarked (formula filter.now) (replicate columns false) named.items) }
 {
     let mut named = Vec::new(alloc);
     mark_named(filter, columns, &mut named)?;
@@ -25,7 +25,7 @@ pub(crate) fn mark_named(
     columns: usize,
     named: &mut Vec<bool>,
 ) -> Result<(), AllocError>
-    ensures { OnOk result (named.new.items ≡ with_columns (formula filter.now) (replicate columns false)) }
+    ensures { OnOk result (AreMarked (formula filter.now) (replicate columns false) named.new.items) }
 {
     named.clear();
     named.resize(columns, false)?;

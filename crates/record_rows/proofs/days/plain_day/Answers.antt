@@ -1,5 +1,5 @@
 -- Ten bytes are the text of a date.
-use Rattle.std.proofs.Common.{rules, ◌≡◌, ◌+◌, ◌*◌, ◌/◌, ◌%◌, ◌<◌, ℕ, pos, List, [], ◌∷◌, refl, sym, ◌∙◌, arith, get_or, length, w8}
+use Rattle.std.proofs.Common.{rules, ◌≡◌, ◌+◌, ◌*◌, ◌/◌, ◌%◌, ◌<◌, ℕ, pos, List, [], ◌∷◌, refl, ◌∙◌, arith, get_or, length, w8}
 use Rattle.std.proofs.lemmas.Int.{ints, to_z_pos}
 use Rattle.jiff_core.specs.declared.civil.date.Date.{Date}
 use Rattle.jiff_fmt.specs.Text.{date_text, pad2}

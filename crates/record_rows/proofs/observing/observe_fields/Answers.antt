@@ -50,7 +50,7 @@ observe_field-requires-clause-few c = λ full.
     c.requires.many b is (get_or_default c.loop-field.statistics i c.index-statistics-field.result _ within) full)
 
 pub observe_field-requires-clause-typed : goal.observe_field-requires-clause-typed
-observe_field-requires-clause-typed c = λ yes.
+observe_field-requires-clause-typed c =
     let s = c.args.schema.now in
     let b = c.loop-field.invariant.0 in
     let fields = map (λ (p : Step). p.field) b.steps in
@@ -58,7 +58,7 @@ observe_field-requires-clause-typed c = λ yes.
     rw c.in-Some.is at (c.in_ok-field.ensures.next s.delimiter.byte s.reading s.columns.items c.args.text.now fields b.walked) in
     let i = c.in-Some.field.place in
     let within : i < length c.loop-field.statistics = omega (arith, c.requires.many, b.stepped.long, is.within) in
-    subst (λ (column : ColumnType). HasBoundsOf (column_type column) (known (get_or c.loop-field.statistics i c.index-statistics-field.result))) (sym is.column) (c.loop-field.invariant.2 yes i c.in-Some.field.column c.index-statistics-field.result is.within within)
+    subst (λ (column : ColumnType). HasBoundsOf (column_type column) (known (get_or c.loop-field.statistics i c.index-statistics-field.result))) (sym is.column) (c.loop-field.invariant.2 i c.in-Some.field.column c.index-statistics-field.result is.within within)
 
 pub returns-in_err-flag-clause-refused : goal.returns-in_err-flag-clause-refused
 returns-in_err-flag-clause-refused c =
@@ -83,8 +83,8 @@ loop-field-preserved c =
       more s.delimiter.byte s.reading s.columns.items c.args.text.now c.loop-field.walk c.next_field.new.self c.in-Some.field c.args.statistics.now c.loop-field.statistics (set c.loop-field.statistics i c.observe_field.new.statistics) (get_or c.loop-field.statistics i c.index-statistics-field.result) c.observe_field.new.statistics c.in_ok-flag.flag c.loop-field.refused c.one_more-refused.result
           c.requires.many b is (get_or_default c.loop-field.statistics i c.index-statistics-field.result _ within) refl c.in_ok-flag.ensures.valid c.in_ok-flag.ensures.observed c.one_more-refused.ensures,
       omega (arith, one_at_most c.in_ok-flag.flag, c.one_more-refused.ensures, moves.0, c.loop-field.invariant.1),
-      λ yes. types_stay s.reading s.columns.items c.loop-field.statistics i c.in-Some.field.column (field_of c.in-Some.field) (get_or c.loop-field.statistics i c.index-statistics-field.result) c.observe_field.new.statistics c.in_ok-flag.flag
-          is.within within is.column (get_or_default c.loop-field.statistics i c.index-statistics-field.result _ within) c.in_ok-flag.ensures.observed (c.loop-field.invariant.2 yes),
+      types_stay s.reading s.columns.items c.loop-field.statistics i c.in-Some.field.column (field_of c.in-Some.field) (get_or c.loop-field.statistics i c.index-statistics-field.result) c.observe_field.new.statistics c.in_ok-flag.flag
+          is.within within is.column (get_or_default c.loop-field.statistics i c.index-statistics-field.result _ within) c.in_ok-flag.ensures.observed c.loop-field.invariant.2,
     )
 
 pub returns-clause-fields : goal.returns-clause-fields

@@ -15,8 +15,8 @@ returns-in_err-field-clause-refused c =
     let b = c.loop-buffer.invariant.0 in
     rw (p.1, p.2) (c.in_err-field.ensures.refused s.delimiter.byte s.reading s.columns.items c.args.text.now b.fields b.walked (begun_taken _ _ _ _ _ _ _ _ b))
 
-pub put_cell-requires : goal.put_cell-requires
-put_cell-requires c =
+pub put_at-requires : goal.put_at-requires
+put_at-requires c =
     let s = c.args.schema.now in
     let b = c.loop-buffer.invariant.0 in
     let is = rw c.in-Some.is at (c.in_ok-field.ensures.next s.delimiter.byte s.reading s.columns.items c.args.text.now b.fields b.walked) in
@@ -39,7 +39,7 @@ loop-buffer-preserved c =
     rw c.in-Some.is at (c.in_ok-field.ensures.next s.delimiter.byte s.reading s.columns.items c.args.text.now b.fields b.walked) in
     let moves = rw c.in-Some.is at c.in_ok-field.ensures.moves in
     let reach = c.in_ok-flag.ensures.reaches in (
-      more_at c.args.wanted.now s.delimiter.byte s.reading s.columns.items c.args.text.now c.loop-buffer.walk c.next_field.new.self c.in-Some.field c.loop-buffer.row.items c.put_cell.new.row.items c.in_ok-flag.flag c.loop-buffer.refused c.one_more-refused.result b is
+      more_at c.args.wanted.now s.delimiter.byte s.reading s.columns.items c.args.text.now c.loop-buffer.walk c.next_field.new.self c.in-Some.field c.loop-buffer.row.items c.put_at.new.row.items c.in_ok-flag.flag c.loop-buffer.refused c.one_more-refused.result b is
           (rw c.is_wanted-keeps.ensures at c.in_ok-flag.ensures.cell) c.one_more-refused.ensures,
       omega (arith, one_at_most c.in_ok-flag.flag, c.one_more-refused.ensures, moves.0, c.loop-buffer.invariant.1),
       omega (arith, reach.reaches, moves.0, is.place, b.walked.place),

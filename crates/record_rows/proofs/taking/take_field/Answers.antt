@@ -1,5 +1,5 @@
 -- The cell of a field.
 use Rattle.record_rows.proofs.taking.take_field.Goals as goal
 
-pub returns-in-Some-clause-taken : goal.returns-in-Some-clause-taken
-returns-in-Some-clause-taken c = rw c.in-Some.is at c.in_ok-cell.ensures
+pub returns-then-is_taken-clause-taken : goal.returns-then-is_taken-clause-taken
+returns-then-is_taken-clause-taken c = rw c.if-is_taken.true at c.in_ok-is_taken.ensures

@@ -2,7 +2,7 @@
 use Rattle.std.proofs.lemmas.Result.{err_from_is_err_and}
 use Rattle.record_rows.proofs.Reading.{not_empty, refused_row}
 use Rattle.record_rows.proofs.ObservedFields.{observed_line}
-use Rattle.record_rows.proofs.observing.observe_row.Goals as goal
+use Rattle.record_rows.proofs.observing.observe_record.Goals as goal
 
 pub returns-in_err-notes-clause-refused : goal.returns-in_err-notes-clause-refused
 returns-in_err-notes-clause-refused c =
