@@ -7,5 +7,6 @@ pub mod FormatSteps
 pub mod OffsetItems
 pub mod BufferSteps
 pub mod RangeSteps
+pub mod RankSteps
 pub mod RowSteps
 pub mod SpanSteps

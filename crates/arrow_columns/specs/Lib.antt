@@ -10,6 +10,7 @@ pub mod Integers
 pub mod Kinds
 pub mod Offsets
 pub mod Ranges
+pub mod Ranks
 pub mod Running
 pub mod Spans
 pub mod Statistics

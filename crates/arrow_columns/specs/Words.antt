@@ -10,6 +10,7 @@ pub use Rattle.arrow_columns.specs.Integers.{IsOfKind, cell_of_item, integer_of,
 pub use Rattle.arrow_columns.specs.Kinds.{integer_kind_at, kind_at, kind_with}
 pub use Rattle.arrow_columns.specs.Offsets.{AreRows, GoUp, IsRow, bytes_between, bytes_of_offset, largest_offset, offset_of}
 pub use Rattle.arrow_columns.specs.Ranges.{AreWithinBefore, IsFirstOutside, IsWithin}
+pub use Rattle.arrow_columns.specs.Ranks.{storage_of_rank}
 pub use Rattle.arrow_columns.specs.Running.{AreGathered}
 pub use Rattle.arrow_columns.specs.Spans.{AreBytes, IsSpan, Widens, beginning}
 pub use Rattle.arrow_columns.specs.Statistics.{AreBooleanStatisticsOf, AreByteStatisticsOf, AreStatisticsOf, NotAbove}

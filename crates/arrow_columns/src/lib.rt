@@ -20,6 +20,7 @@ mod items;
 mod kinds;
 mod offset_width;
 mod offsets;
+mod ranks;
 mod reading;
 mod statistics;
 mod tested_rows;
@@ -30,6 +31,7 @@ pub use casts::CastError;
 pub use columns::{Column, row_count_of};
 pub use errors::{Buffer, ColumnError};
 pub use formats::{DecimalWidth, Format};
+pub use items::{Item, Storage32, Storage64};
 pub use kinds::{IntegerKind, ItemKind, Kind};
 pub use offset_width::OffsetWidth;
 pub use statistics::{

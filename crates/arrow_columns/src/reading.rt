@@ -15,7 +15,7 @@ use crate::byte_extremes::statistics_of_byte_rows;
 use crate::byte_items::row;
 use crate::columns::Column;
 use crate::extremes::statistics_of_rows;
-use crate::items::{Item, Storage32, Storage64};
+use crate::items::{Item, Rank32, Rank64, Storage32, Storage64};
 use crate::kinds::{IntegerKind, ItemKind};
 use crate::offset_width::OffsetWidth;
 use crate::offsets::Offset;
@@ -150,8 +150,8 @@ impl ItemRows<'_> {
         let column = self.column;
         match self.kind {
             ItemKind::Integer(kind) => IntegerRows { kind, column }.statistics(),
-            ItemKind::F32 => statistics_of_integers::<4, Storage32>(column),
-            ItemKind::F64 => statistics_of_integers::<8, Storage64>(column),
+            ItemKind::F32 => statistics_of_integers::<4, Rank32>(column),
+            ItemKind::F64 => statistics_of_integers::<8, Rank64>(column),
             ItemKind::I128 => statistics_of_integers::<16, i128>(column),
         }
     }
