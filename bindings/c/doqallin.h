@@ -400,19 +400,18 @@ uint32_t doqallin_filter_outcomes(const uint8_t *filter, size_t filter_length, c
  * bytes may have either width of offsets, and decimals any width that has their precision. A column that the filter does not name
  * is not looked at: it may be of any kind, also of none. One that names none is the same on each row. `depth` is as above.
  * GIVEN: the buffer begins with the bits of the rows. Those after them in their last byte are 0, and the bytes after it are as
- * they were. Of the others the first of these comes:
+ * they were. Under each other status the whole buffer is as it was, and the first of these comes:
  * BAD_BYTES: the filter is no encoding that nests so deep at most, or has such a literal. fault->column is column_count, and
  * fault->place is as above.
  * BUFFER_TOO_SMALL: exactly if the filter was read, for which memory is asked, and the buffer has fewer bytes than a bit for each
- * row takes. Here nothing is written.
+ * row takes. Here `fault` is not written.
  * WRONG_LENGTH: exactly if the columns are not as many as the filter's. fault->column is column_count.
  * UNKNOWN_KIND, TOO_MANY_ROWS, TOO_SHORT, BAD_OFFSETS, NOT_UTF8, NOT_A_VALUE: fault->column cannot be read, for what is at
  * fault->place.
  * UNKNOWN_KIND: fault->column is of another kind than the filter's, and fault->place is 1.
  * WRONG_LENGTH: fault->column has another number of rows than row_count. Of the last three the first column decides, of those that
  * the filter names.
- * NO_MEMORY: memory is asked for the filter, for each column, and for values of more than 22 bytes. The bits may then say
- * anything. */
+ * NO_MEMORY: memory is asked for the filter and for each column, and for no value. */
 uint32_t doqallin_filter_mask(const uint8_t *filter, size_t filter_length, const struct doqallin_column *columns,
                               size_t column_count, size_t row_count, size_t depth, uint8_t *buffer, size_t buffer_length,
                               struct doqallin_fault *fault);

@@ -813,8 +813,8 @@ static int memory(int which) {
     uint32_t status = take_memory(which);
     say("answered\n");
     if (mallinfo2().uordblks != before) return 1;
-    // Without memory the byte of a mask, or of outcomes, may be any.
-    size_t any = which == 10 || which == 11 || which == 18;
+    // Without memory the byte of outcomes may be any.
+    size_t any = which == 11;
     if (status == DOQALLIN_NO_MEMORY) return count == 77 && lengths_kept() && is_kept(buffer, any) && is_kept(other, 0) ? 3 : 1;
     return status == DOQALLIN_GIVEN ? given(which) : 1;
 }

@@ -53,11 +53,22 @@ def columns() -> None:
     compare_columns("the statistics of a million i64, beside min and max", lambda: statistics(numbers), lambda: (numbers.min(), numbers.max()), "3")
     floats = numbers / 64
     compare_columns("the statistics of a million f64, beside min and max", lambda: statistics(floats), lambda: (floats.min(), floats.max()), "4")
-    prices = Filter("price > 1000.5 and price <= 100000", {"price": "f64"})
-    compare_columns("the mask of a million f64", lambda: prices.mask({"price": floats}), lambda: (floats > 1000.5) & (floats <= 100_000))
+    masks(numpy, numbers, floats)
     compare_columns("a cast of a million i64 to i32", lambda: cast(numbers, "i32"), plain_cast, "1")
     compare_columns("the keys of a million i64, beside sorting", lambda: row_keys([numbers]), lambda: numbers.argsort())
     orders(numpy, numbers)
+
+
+def masks(numpy, numbers, floats) -> None:
+    """Masks of a million rows, beside numpy's own expressions."""
+    of_numbers = Filter("a > 5 and b <= 100000000", {"a": "i64", "b": "i64"})
+    compare_columns("the mask of two i64", lambda: of_numbers.mask({"a": numbers, "b": numbers}), lambda: (numbers > 5) & (numbers <= 100_000_000), "1.5")
+    of_floats = Filter("a > 1000.5 and b <= 100000", {"a": "f64", "b": "f64"})
+    compare_columns("the mask of two f64", lambda: of_floats.mask({"a": floats, "b": floats}), lambda: (floats > 1000.5) & (floats <= 100_000), "1.5")
+    words = [["Oslo", "Bergen", "Stavanger", "Trondheim"][number % 4] for number in numbers.tolist()]
+    towns, of_numpy = column(words), numpy.array(words)
+    of_towns = Filter("city = 'Oslo'", {"city": "utf8"})
+    compare_columns("the mask of a town", lambda: of_towns.mask({"city": towns}), lambda: of_numpy == "Oslo")
 
 
 def orders(numpy, numbers) -> None:

@@ -7,6 +7,7 @@ import pickle
 import random
 import sqlite3
 import unittest
+from itertools import product
 from typing import Any
 
 import doqallin
@@ -100,6 +101,45 @@ class OfFilters(Released):
             del batch
         self.assertGreater(seen, COUNT // 10)
         store.close()
+
+    def test_blocks_of_rows(self) -> None:
+        """Rows are asked in words of 64, and these in blocks of 2,048."""
+        source = random.Random(61)
+        store = sqlite3.connect(":memory:")
+        store.execute("pragma case_sensitive_like = on")
+        for rows in (0, 1, 7, 8, 9, 63, 64, 65, 127, 128, 129, 2047, 2048, 2049, 4095, 4096, 4097):
+            table = some_table(source, rows)
+            store.execute("drop table if exists t")
+            store.execute('create table t (n integer, "big number" integer, truth integer, city text, data blob)')
+            store.executemany("insert into t values (?, ?, ?, ?, ?)", list(zip(*table.values())))
+            batch = columns(struct_of(source, tuple(layout(source, FORMS[name], part, name) for name, part in table.items()), rows))
+            for _ in range(20):
+                text = some_filter(source, 4)
+                matches = [truth == 1 for (truth,) in store.execute(f"select ({text}) from t order by rowid")]
+                self.assertEqual(list(Filter(text, SCHEMA).mask(batch)), matches, (rows, text))
+            del batch
+        store.close()
+
+    def test_a_block_that_is_decided(self) -> None:
+        """Where one side says the same of a whole block, the other may say anything of it."""
+        rows = range(5000)
+        table, schema = {"a": list(rows), "b": [None if row % 3 else row % 2 for row in rows]}, {"a": "i64", "b": "i64?"}
+        sides = {
+            "a >= 4096": [row >= 4096 for row in rows],
+            "a < 2048": [row < 2048 for row in rows],
+            "a < 4100": [row < 4100 for row in rows],
+            "b = 1": [None if row % 3 else row % 2 == 1 for row in rows],
+            "b in (0, 1)": [None if row % 3 else True for row in rows],
+            "b is null": [row % 3 != 0 for row in rows],
+        }
+        for (first, xs), (second, ys) in product(sides.items(), repeat=2):
+            for text, is_match in (
+                (f"{first} and {second}", lambda x, y: x is True and y is True),
+                (f"{first} or {second}", lambda x, y: x is True or y is True),
+                (f"not ({first} and {second})", lambda x, y: x is False or y is False),
+                (f"not ({first} or {second})", lambda x, y: x is False and y is False),
+            ):
+                self.assertEqual(list(Filter(text, schema).mask(table)), [is_match(x, y) for x, y in zip(xs, ys)], text)
 
     def test_a_stream_is_masked(self) -> None:
         source = random.Random(61)

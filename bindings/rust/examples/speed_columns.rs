@@ -1,6 +1,6 @@
 // SPDX-License-Identifier: Apache-2.0
 // SPDX-FileCopyrightText: Copyright the Vortex contributors; ported to Rattle and changed
-//! Statistics, casts and keys of a million rows beside careful plain loops. `speed_columns` shows the times of both, and their ratio.
+//! Statistics, casts, keys and masks of a million rows beside careful plain loops. `speed_columns` shows the times of both, and their ratio.
 //! `speed_columns NAME ours`, `plain` and `none` make the columns, and do one of the two or neither: bench/bindings counts what
 //! each takes. `speed_columns aims` has each name after the most that its ratio is to be.
 
@@ -35,13 +35,36 @@ struct Rows {
     /// The same strings after a beginning of 24 bytes.
     alike: Vec<u8>,
     alike_offsets: Vec<i32>,
+    /// Towns of sixteen.
+    towns: Vec<u8>,
+    town_offsets: Vec<i32>,
 }
+
+const TOWNS: [&str; 16] = [
+    "Oslo",
+    "Bergen",
+    "Trondheim",
+    "Stavanger",
+    "Drammen",
+    "Tromsø",
+    "Sandnes",
+    "Kristiansand",
+    "Ålesund",
+    "Bodø",
+    "Arendal",
+    "Larvik",
+    "Halden",
+    "Moss",
+    "Molde",
+    "Harstad",
+];
 
 fn rows() -> Rows {
     let mut random = Random(88_172_645_463_325_252);
     let wide: Vec<i64> = (0..ROWS).map(|_| i64::from(random.next() as i32)).collect();
     let (mut text, mut offsets) = (Vec::new(), vec![0]);
     let (mut alike, mut alike_offsets) = (Vec::new(), vec![0]);
+    let (mut towns, mut town_offsets) = (Vec::new(), vec![0]);
     for _ in 0..ROWS {
         let (start, length) = (text.len(), 4 + random.next() % 25);
         text.extend((0..length).map(|_| b'a' + (random.next() % 26) as u8));
@@ -49,6 +72,8 @@ fn rows() -> Rows {
         alike.extend_from_slice(b"https://www.example.org/");
         alike.extend_from_slice(&text[start..]);
         alike_offsets.push(alike.len() as i32);
+        towns.extend_from_slice(TOWNS[(random.next() % 16) as usize].as_bytes());
+        town_offsets.push(towns.len() as i32);
     }
     Rows {
         narrow: wide.iter().map(|number| *number as i32).collect(),
@@ -59,6 +84,8 @@ fn rows() -> Rows {
         offsets,
         alike,
         alike_offsets,
+        towns,
+        town_offsets,
     }
 }
 
@@ -190,8 +217,116 @@ fn plain_text_extremes(text: &[u8], offsets: &[i32], validity: &[u8]) -> (u64, S
     (nulls, string(&least[..least.len().min(16)]), string(&upper))
 }
 
+/// A bit for each value, 1 if the test holds.
+fn bits_of<T>(values: &[T], test: impl Fn(&T) -> bool) -> Vec<u64> {
+    let word = |block: &[T]| {
+        let bits = block.iter().enumerate();
+        bits.fold(0, |word, (place, value)| {
+            word | u64::from(test(value)) << place
+        })
+    };
+    values.chunks(64).map(word).collect()
+}
+
+/// A bit for each string, 1 if the test holds.
+fn bits_of_strings(text: &[u8], offsets: &[i32], test: impl Fn(&[u8]) -> bool) -> Vec<u64> {
+    let word = |first: usize| {
+        (first..ROWS.min(first + 64)).fold(0, |word, row| {
+            let value = &text[offsets[row] as usize..offsets[row + 1] as usize];
+            word | u64::from(test(value)) << (row % 64)
+        })
+    };
+    (0..ROWS).step_by(64).map(word).collect()
+}
+
+fn joined(words: &mut [u64], others: &[u64]) {
+    for (word, other) in words.iter_mut().zip(others) {
+        *word &= other;
+    }
+}
+
+/// The rows of two columns whose values pass both tests; a null passes none.
+fn plain_mask_of_two<T>(
+    columns: [&[T]; 2],
+    validity: &[u8],
+    above: impl Fn(&T) -> bool,
+    below: impl Fn(&T) -> bool,
+) -> Vec<bool> {
+    let mut words = bits_of(columns[0], above);
+    joined(&mut words, &bits_of(columns[1], below));
+    let valid = validity.chunks(8).map(|bytes| {
+        let mut word = [0; 8];
+        word[..bytes.len()].copy_from_slice(bytes);
+        u64::from_le_bytes(word)
+    });
+    joined(&mut words, &valid.collect::<Vec<u64>>());
+    rows_of(&words)
+}
+
+fn rows_of(words: &[u64]) -> Vec<bool> {
+    (0..ROWS)
+        .map(|row| words[row / 64] >> (row % 64) & 1 == 1)
+        .collect()
+}
+
+fn plain_mask(name: &str, of: &Rows, validity: &[u8]) -> Vec<bool> {
+    let (text, offsets) = (&of.towns[..], &of.town_offsets[..]);
+    let is_listed = |town: &[u8]| TOWNS[..8].iter().any(|one| town == one.as_bytes());
+    match name {
+        name if name.contains("i64") => plain_mask_of_two(
+            [&of.wide, &of.wide[..]],
+            validity,
+            |a| *a > 5,
+            |b| *b <= 1_000_000_000,
+        ),
+        // A NaN is above each number.
+        name if name.contains("f64") => plain_mask_of_two(
+            [&of.floats, &of.floats[..]],
+            validity,
+            |a| !(*a <= 5.0),
+            |b| *b <= 10_000_000.0,
+        ),
+        name if name.contains("eight") => rows_of(&bits_of_strings(text, offsets, is_listed)),
+        name if name.contains("begin") => rows_of(&bits_of_strings(text, offsets, |town| {
+            town.starts_with(b"S")
+        })),
+        _ => rows_of(&bits_of_strings(text, offsets, |town| town == b"Oslo")),
+    }
+}
+
+/// The mask of a filter, and of its columns.
+fn mask(name: &str, of: &Rows) -> Vec<bool> {
+    let towns = Column::utf8(&of.towns, &of.town_offsets);
+    let numbers = column(name, of);
+    let listed = TOWNS[..8].join("', '");
+    let (words, columns): (String, Vec<Column>) = match name {
+        name if name.contains("i64") => {
+            ("a > 5 and b <= 1000000000".into(), vec![numbers, numbers])
+        }
+        name if name.contains("f64") => ("a > 5 and b <= 10000000".into(), vec![numbers, numbers]),
+        name if name.contains("eight") => (format!("a in ('{listed}')"), vec![towns]),
+        name if name.contains("begin") => ("a like 'S%'".into(), vec![towns]),
+        _ => ("a = 'Oslo'".into(), vec![towns]),
+    };
+    let kinds: Vec<(&str, Kind)> = ["a", "b"]
+        .into_iter()
+        .zip(columns.iter().map(Column::kind))
+        .collect();
+    let wanted = Filter::parse(&words, &kinds).expect("a filter");
+    wanted.mask(&columns, ROWS).expect("sound columns")
+}
+
+/// How many rows match, and which of the last.
+fn told_mask(rows: &[bool]) -> String {
+    format!(
+        "{}, {:?}",
+        rows.iter().filter(|is| **is).count(),
+        &rows[ROWS - 99..]
+    )
+}
+
 /// What is measured, and the most that its ratio to plain Rust is to be.
-const AIMS: [(&str, f64); 12] = [
+const AIMS: [(&str, f64); 19] = [
     ("statistics of i64", 0.6),
     ("statistics of i64 with nulls", 0.9),
     ("statistics of i32", 0.6),
@@ -204,6 +339,13 @@ const AIMS: [(&str, f64); 12] = [
     ("cast", 1.0),
     ("cast with nulls", 1.0),
     ("keys", 1.2),
+    ("mask of two i64", 1.0),
+    ("mask of two i64 with nulls", 1.0),
+    ("mask of two f64", 1.0),
+    ("mask of two f64 with nulls", 1.0),
+    ("mask of a town", 1.0),
+    ("mask of eight towns", 1.0),
+    ("mask of how towns begin", 1.0),
 ];
 
 /// The most time that statistics of f64 are to take, by that of i64.
@@ -241,6 +383,9 @@ fn shown(bound: Option<&Item>) -> String {
 }
 
 fn ours(name: &str, of: &Rows) -> String {
+    if name.starts_with("mask") {
+        return told_mask(&mask(name, of));
+    }
     if name.starts_with("statistics") {
         let known = Statistics::of(&column(name, of), 16).expect("a sound column");
         let (lower, upper) = (shown(known.lower()), shown(known.upper()));
@@ -265,6 +410,9 @@ fn plain(name: &str, of: &Rows) -> String {
     } else {
         &[]
     };
+    if name.starts_with("mask") {
+        return told_mask(&plain_mask(name, of, validity));
+    }
     let told = |(nulls, least, greatest): (u64, String, String)| {
         format!("{:?} null, {least} to {greatest}", Some(nulls))
     };

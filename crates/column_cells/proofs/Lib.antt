@@ -4,4 +4,5 @@ mod FormatValues
 mod KindRanges
 pub mod TableSteps
 mod TypeLaws
+mod TypeSteps
 mod ValueSteps

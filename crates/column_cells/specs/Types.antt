@@ -1,5 +1,5 @@
 -- The types of columns, by their kinds: each takes a null.
-use Rattle.std.specs.Prelude.{ℕ, [], ◌∷◌, Option, Some, None, codes, if◌then◌else◌, nat_le}
+use Rattle.std.specs.Prelude.{◌≡◌, ℕ, List, [], ◌∷◌, Option, Some, None, codes, if◌then◌else◌, nat_le}
 use Rattle.arrow_columns.specs.Columns.{kind_in}
 use Rattle.arrow_columns.specs.declared.columns.Column.{Column}
 use Rattle.arrow_columns.specs.declared.formats.Format.{Format}
@@ -15,7 +15,8 @@ use Rattle.logical_types.specs.Extensions.{time_storage}
 use Rattle.logical_types.specs.declared.extensions.StorageType.{StorageType}
 use Rattle.logical_types.specs.declared.extensions.StorageType.TheVariants as storages
 use Rattle.logical_types.specs.declared.logical.LogicalType.TheVariants as logical
-use Rattle.vortex_dtype.specs.TypeTree.{TypeTree, binary_type, bool_type, extension_type, integer_type, null_type, utf8_type}
+use Rattle.vortex_dtype.specs.TypeOf.{ExtensionParts, extension_type_of}
+use Rattle.vortex_dtype.specs.TypeTree.{Same, TypeTree, binary_type, bool_type, extension_type, integer_type, null_type, utf8_type}
 use Rattle.vortex_dtype.specs.declared.nullability.Nullability.TheVariants.{Nullable}
 use Rattle.vortex_dtype.specs.declared.ptype.PType.{PType}
 use Rattle.vortex_dtype.specs.declared.ptype.PType.TheVariants.{U8, U16, U32, U64, I8, I16, I32, I64}
@@ -95,3 +96,15 @@ IsLogical _ = ⊥
 abbrev pub HasLogicalType : Rows → Type 0
 HasLogicalType (Values rows) = Unit {0}
 HasLogicalType _ = ⊥
+
+-- the extension has this id, these metadata, and storages of this type up to nullability
+pub record HasParts (id metadata : List ℕ) (storage : StorageType) (e : ExtensionParts) : Type 0 where
+  pub named : e.id ≡ id
+  pub described : e.metadata ≡ metadata
+  pub stored : Same (storage_tree storage Nullable) e.storage
+
+-- the type is such an extension
+pub record IsExtensionOver (id metadata : List ℕ) (storage : StorageType) (t : TypeTree) : Type 0 where
+  pub parts : ExtensionParts
+  pub typed : t ≡ extension_type_of parts
+  pub has : HasParts id metadata storage parts

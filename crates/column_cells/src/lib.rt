@@ -13,4 +13,4 @@ mod values;
 pub use cells::{null_of_rows, row_count, scalar_at, value_at};
 pub use rows::rows_of;
 pub use scalars::{bool_scalar, byte_scalar, integer_scalar, text_scalar, value_scalar};
-pub use types::{dtype_of, dtype_of_format, dtype_of_rows, ptype_of};
+pub use types::{dtype_of, dtype_of_format, dtype_of_rows, is_type_of_rows, ptype_of};

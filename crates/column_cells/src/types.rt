@@ -1,13 +1,17 @@
 //! The types of columns.
 
-ghost use Rattle.std.specs.Prelude.{◌≡◌, IfErr};
-ghost use Rattle.column_cells.specs.Words.{GivesOrNoMemory, HasLogicalType, IsLogical, Nullable, decimal_storage};
-ghost use Rattle.column_cells.specs.Words.{decimal_tree, ptype_of_kind, storage_of_format, storage_tree};
+ghost use Rattle.std.specs.Prelude.{◌≡◌, ◌↔◌, IfErr, IsTrue};
+ghost use Rattle.column_cells.specs.Words.{GivesOrNoMemory, HasLogicalType, HasParts, IsExtensionOver, IsLogical};
+ghost use Rattle.column_cells.specs.Words.{Nullable, Same, decimal_storage, decimal_tree, ext_of, logical_tree};
+ghost use Rattle.column_cells.specs.Words.{ptype_of_kind};
+ghost use Rattle.column_cells.specs.Words.{storage_of_format, storage_tree};
 ghost use Rattle.column_cells.specs.Words.{type_of, type_of_format, type_of_kind, type_of_rows};
 
 use arrow_columns::{Format, IntegerKind, Kind, Rows};
 use logical_scalars::dtype_of_logical_type;
-use logical_types::{LogicalType, StorageType, TimeUnit};
+use logical_types::{
+    LogicalType, StorageType, TimeUnit, extension_id, extension_metadata, storage_type,
+};
 use std::alloc::Global;
 use vortex_dtype::{BufferString, ByteBuffer, DType, ExtDType, Nullability, PType, VortexError};
 
@@ -61,6 +65,24 @@ pub fn dtype_of_rows(alloc: Global, rows: &Rows) -> Result<DType, VortexError>
     })
 }
 
+/// Whether a type is that of the cells of a column, up to nullability. It makes no type, and so takes no
+/// memory.
+pub fn is_type_of_rows(rows: &Rows, dtype: &DType) -> bool
+    ensures { IsTrue result ↔ Same (type_of_rows rows.now) (type_of dtype.now) }
+{
+    match rows {
+        Rows::Integers(rows) => {
+            let own = DType::Primitive(ptype_of(rows.kind), Nullability::Nullable);
+            own.eq_ignore_nullability(dtype)
+        }
+        Rows::Booleans(_) => DType::Bool(Nullability::Nullable).eq_ignore_nullability(dtype),
+        Rows::Strings(_) => DType::Utf8(Nullability::Nullable).eq_ignore_nullability(dtype),
+        Rows::Bytes(_) => DType::Binary(Nullability::Nullable).eq_ignore_nullability(dtype),
+        Rows::Nulls(_) => DType::Null.eq_ignore_nullability(dtype),
+        Rows::Values(rows) => is_type_of_format(rows.format, dtype),
+    }
+}
+
 /// The type of the cells of a column of a format. A zone has the name `UTC`, since timestamps count in it.
 pub fn dtype_of_format(alloc: Global, format: Format) -> Result<DType, VortexError>
     ensures { GivesOrNoMemory (λ dtype. type_of dtype ≡ type_of_format format) result }
@@ -78,6 +100,79 @@ pub fn dtype_of_format(alloc: Global, format: Format) -> Result<DType, VortexErr
         } => return dtype_of_decimals(alloc, precision, scale),
     };
     dtype_of_logical_type(alloc, logical, Nullability::Nullable)
+}
+
+/// Whether a type is that of the cells of a column of a format, up to nullability.
+fn is_type_of_format(format: Format, dtype: &DType) -> bool
+    ensures { IsTrue result ↔ Same (type_of_format format) (type_of dtype.now) }
+{
+    match format {
+        Format::Float32 => is_type_of_logical(LogicalType::Float32, dtype),
+        Format::Float64 => is_type_of_logical(LogicalType::Float64, dtype),
+        Format::Date32 => is_type_of_logical(LogicalType::Date, dtype),
+        Format::Time(unit) => is_type_of_logical(LogicalType::Time(unit), dtype),
+        Format::Timestamp { unit, is_zoned } => {
+            is_type_of_logical(LogicalType::Timestamp { unit, is_zoned }, dtype)
+        }
+        Format::Decimal {
+            precision,
+            scale,
+            ..
+        } => is_type_of_decimals(precision, scale, dtype),
+    }
+}
+
+/// Whether a type is that of a logical type, up to nullability. A zone has the name `UTC`.
+fn is_type_of_logical(logical: LogicalType, dtype: &DType) -> bool
+    ensures { IsTrue result ↔ Same (logical_tree logical Nullable) (type_of dtype.now) }
+{
+    let metadata = extension_metadata(logical);
+    is_extension(
+        extension_id(logical),
+        metadata.as_slice(),
+        storage_type(logical),
+        dtype,
+    )
+}
+
+/// Whether a type is that of decimals of so many digits, so many of them behind the point, up to nullability.
+fn is_type_of_decimals(precision: u8, scale: u8, dtype: &DType) -> bool
+    ensures { IsTrue result ↔ Same (decimal_tree precision scale) (type_of dtype.now) }
+{
+    let metadata = [precision, scale];
+    is_extension(
+        "doqallin.decimal",
+        &metadata,
+        decimal_storage(precision),
+        dtype,
+    )
+}
+
+/// Whether a type is an extension with this id and these metadata, over storages of this type up to
+/// nullability.
+fn is_extension(id: &str, metadata: &[u8], storage: StorageType, dtype: &DType) -> bool
+    ensures { IsTrue result ↔ IsExtensionOver id.now metadata.now storage (type_of dtype.now) }
+{
+    let DType::Extension(extension) = dtype else {
+        return false;
+    };
+    has_parts(id, metadata, storage, extension)
+}
+
+/// Whether an extension has this id, these metadata, and storages of this type up to nullability.
+fn has_parts(id: &str, metadata: &[u8], storage: StorageType, extension: &ExtDType) -> bool
+    ensures { IsTrue result ↔ HasParts id.now metadata.now storage (ext_of extension.now) }
+{
+    extension.id().as_str() == id
+        && extension.metadata().as_slice() == metadata
+        && is_storage(storage, extension.storage_dtype())
+}
+
+/// Whether a type is that of storages, up to nullability.
+fn is_storage(storage: StorageType, dtype: &DType) -> bool
+    ensures { IsTrue result ↔ Same (storage_tree storage Nullable) (type_of dtype.now) }
+{
+    dtype_of_storage(storage).eq_ignore_nullability(dtype)
 }
 
 /// The type of decimals of so many digits, so many of them behind the point.

@@ -1,10 +1,10 @@
 -- Steps of reading the columns that a filter is asked of.
-use Rattle.std.proofs.Common.{◌≡◌, ℕ, zero, suc, ◌+◌, ◌<◌, ◌≤◌, inl, inr, Bool, true, false, List, [], ◌∷◌, ◌++◌, length, replicate, take, get_or, map, refl, sym, subst, ap, ap₂, ◌∙◌, arith}
+use Rattle.std.proofs.Common.{◌≡◌, ℕ, zero, suc, ◌+◌, ◌<◌, ◌≤◌, inl, inr, Bool, true, false, List, [], ◌∷◌, ◌++◌, length, replicate, take, get_or, map, refl, sym, subst, ap, ap₂, ◌∙◌, arith, true≢false}
 use Rattle.std.specs.Global.{Global}
 use Rattle.std.specs.Prelude.{slice_index_or, Result, Ok, Err, IsErr, IsErrAnd, IfErr, Vec}
 use Rattle.std.specs.List.{All}
 use Rattle.std.proofs.lemmas.Bool.{cases_lt}
-use Rattle.std.proofs.lemmas.List.{get_or-map, length-append, length-map, length-replicate, length-take, map-append, take_more}
+use Rattle.std.proofs.lemmas.List.{get_or-map, get_or-replicate, length-append, length-map, length-replicate, length-take, map-append, take_more}
 use Rattle.std.proofs.lemmas.List.Elements.{All-nil, All-push}
 use Rattle.arrow_columns.specs.declared.columns.Column.{Column}
 use Rattle.arrow_columns.specs.declared.tested_rows.Rows.{Rows}
@@ -17,9 +17,9 @@ use Rattle.vortex_filter.specs.Formula.{Formula, cell_at}
 use Rattle.arrow_columns.specs.declared.tested_rows.Rows.TheVariants.{Nulls}
 use Rattle.column_cells.specs.Contents.{HasTexts, contents_of_rows}
 use Rattle.column_cells.proofs.TableSteps.{first-error, sound-more}
-use Rattle.column_filters.proofs.NamedSteps.{not_named}
-use Rattle.vortex_filter.specs.Named.{with_columns}
-use Rattle.column_filters.specs.Tables.{AgreeIn, AreColumnsOf, AreReadFrom, AreSoundBefore, IsErrorAt, IsNamed, IsReadFrom, IsReadIf, IsSoundAt, IsTableError, cell_of_column, cell_of_rows, cells_of_columns, cells_of_rows}
+use Rattle.vortex_filter.specs.Named.{AgreeIn, AreMarked, IsNamed}
+use Rattle.column_filters.specs.Tables.{AreColumnsOf, AreReadFrom, AreSoundBefore, IsErrorAt, IsReadFrom, IsReadIf, IsSoundAt, IsTableError, cell_of_column, cells_of_columns}
+use Rattle.column_kernels.specs.Words.{cell_of_row, cells_of_row}
 use Rattle.column_filters.specs.declared.errors.MaskError.{MaskError}
 use Rattle.column_filters.specs.declared.errors.MaskError.TheVariants.{BufferTooSmall, OutOfMemory, TypesDiffer, Unreadable, WrongCount, WrongLength}
 
@@ -42,7 +42,7 @@ read-none f columns count = record { cells = λ row k n. refl; rows = All-nil _ 
 
 -- one more
 
-same-cell : (row : ℕ) (column : Column) (t : TypeTree) (count : ℕ) (rows : Rows) → IsReadFrom column t count rows → cell_of_rows row rows ≡ cell_of_column row column
+same-cell : (row : ℕ) (column : Column) (t : TypeTree) (count : ℕ) (rows : Rows) → IsReadFrom column t count rows → cell_of_row rows row ≡ cell_of_column row column
 same-cell row column t count rows read =
     let cell : TypeTree → List Content → Cell = λ u xs. record { typed = u; content = slice_index_or xs row null } in
     ap₂ cell read.typed read.contents
@@ -77,16 +77,16 @@ agree-more f xs ys x y e h same k n = elim (cases_lt k (length xs)) [
 
 -- a column that is read is one of so many rows
 pub read-more : (f : Formula) (columns : List Column) (count k : ℕ) (d : Column) (table more : List Rows) (rows : Rows) → k < length columns → length table ≡ k
-    → AreReadFrom f columns count k table → ((row : ℕ) → IsNamed f k → cell_of_rows row rows ≡ cell_of_column row (get_or columns k d)) → (length (contents_of_rows rows) ≡ count) × HasTexts rows
+    → AreReadFrom f columns count k table → ((row : ℕ) → IsNamed f k → cell_of_row rows row ≡ cell_of_column row (get_or columns k d)) → (length (contents_of_rows rows) ≡ count) × HasTexts rows
     → more ≡ table ++ rows ∷ [] → AreReadFrom f columns count (k + 1) more
 read-more f columns count k d table more rows here many all one good e = record {
   cells = λ row.
-      subst (λ xs. AgreeIn f xs (cells_of_columns (take (k + 1) columns) row)) (sym (ap (λ xs. cells_of_rows xs row) e ∙ map-append (cell_of_rows row) table (rows ∷ [])))
-      (subst (λ ys. AgreeIn f (cells_of_rows table row ++ cell_of_rows row rows ∷ []) ys)
+      subst (λ xs. AgreeIn f xs (cells_of_columns (take (k + 1) columns) row)) (sym (ap (λ xs. cells_of_row xs row) e ∙ map-append (λ (r : Rows). cell_of_row r row) table (rows ∷ [])))
+      (subst (λ ys. AgreeIn f (cells_of_row table row ++ cell_of_row rows row ∷ []) ys)
       (sym (ap (λ xs. cells_of_columns xs row) (take_more columns k d here) ∙ map-append (cell_of_column row) (take k columns) (get_or columns k d ∷ [])))
-      (agree-more f (cells_of_rows table row) (cells_of_columns (take k columns) row) (cell_of_rows row rows) (cell_of_column row (get_or columns k d))
-      (omega (arith, length-map table (cell_of_rows row), length-map (take k columns) (cell_of_column row), length-take k columns)) (all.cells row)
-      (λ n. one row (subst (IsNamed f) (omega (arith, length-map table (cell_of_rows row))) n))));
+      (agree-more f (cells_of_row table row) (cells_of_columns (take k columns) row) (cell_of_row rows row) (cell_of_column row (get_or columns k d))
+      (omega (arith, length-map table (λ (r : Rows). cell_of_row r row), length-map (take k columns) (cell_of_column row), length-take k columns)) (all.cells row)
+      (λ n. one row (subst (IsNamed f) (omega (arith, length-map table (λ (r : Rows). cell_of_row r row))) n))));
   rows = subst (λ t. All (λ r. (length (contents_of_rows r) ≡ count) × HasTexts r) t) (sym e) (All-push (λ r. (length (contents_of_rows r) ≡ count) × HasTexts r) table rows all.rows good);
 }
 
@@ -102,16 +102,22 @@ read-other f columns count k d table more here many all other e =
     read-more f columns count k d table more (Nulls count) here many all (λ row n. absurd (other n)) (length-replicate count null, tt) e
 
 -- a column by its flag
-pub flag_is : (f : Formula) (n k : ℕ) (b : Bool) (given named : List Bool) → b ≡ get_or given k false → given ≡ named → named ≡ with_columns f (replicate n false) → get_or (with_columns f (replicate n false)) k false ≡ b
-flag_is f n k b given named is same e = sym (is ∙ ap (λ xs. get_or xs k false) (same ∙ e))
+pub flag_is : (k : ℕ) (b : Bool) (given flags : List Bool) → b ≡ get_or given k false → given ≡ flags → get_or flags k false ≡ b
+flag_is k b given flags is same = sym (is ∙ ap (λ xs. get_or xs k false) same)
 
-pub place-more : (f : Formula) (columns : List Column) (types : List TypeTree) (count k n : ℕ) (d : Column) (table more : List Rows) (rows : Rows) (b : Bool) → k < length columns → k < n → length table ≡ k
-    → get_or (with_columns f (replicate n false)) k false ≡ b → AreReadFrom f columns count k table → AreSoundBefore f columns types count k
+pub is_named : (f : Formula) (n k : ℕ) (flags : List Bool) → AreMarked f (replicate n false) flags → k < n → get_or flags k false ≡ true → IsNamed f k
+is_named f n k flags marked l e = elim ((marked.flags k (omega (arith, length-replicate n false))).0 e) [ inl o ↦ absurd (true≢false (sym o ∙ get_or-replicate n k false false l)) | inr h ↦ h ]
+
+not_named : (f : Formula) (n k : ℕ) (flags : List Bool) → AreMarked f (replicate n false) flags → k < n → get_or flags k false ≡ false → ¬ (IsNamed f k)
+not_named f n k flags marked l e h = true≢false (sym ((marked.flags k (omega (arith, length-replicate n false))).1 (inr h)) ∙ e)
+
+pub place-more : (f : Formula) (columns : List Column) (types : List TypeTree) (count k n : ℕ) (d : Column) (table more : List Rows) (rows : Rows) (b : Bool) (flags : List Bool) → k < length columns → k < n → length table ≡ k
+    → AreMarked f (replicate n false) flags → get_or flags k false ≡ b → AreReadFrom f columns count k table → AreSoundBefore f columns types count k
     → IsReadIf b (get_or columns k d) (get_or types k null_type) count rows → more ≡ table ++ rows ∷ [] → AreReadFrom f columns count (k + 1) more × AreSoundBefore f columns types count (k + 1)
-place-more f columns types count k n d table more rows true here l many flag all sound one e =
+place-more f columns types count k n d table more rows true flags here l many marked flag all sound one e =
     (read-named f columns (get_or types k null_type) count k d table more rows here many all one e, sound-more (IsSoundAt f types count) columns k d here sound (λ h. one.sound))
-place-more f columns types count k n d table more rows false here l many flag all sound one e =
-    let other = not_named f n k l flag in
+place-more f columns types count k n d table more rows false flags here l many marked flag all sound one e =
+    let other = not_named f n k flags marked l flag in
     (read-other f columns count k d table more here many all other (e ∙ ap (λ r. table ++ r ∷ []) one), sound-more (IsSoundAt f types count) columns k d here sound (λ h. absurd (other h)))
 
 -- an error of a named column is one of the table

@@ -1,6 +1,4 @@
 mod ColumnSteps
 mod Covering
-mod MaskSteps
-mod NamedSteps
 mod RowSteps
 mod ZoneSteps

@@ -28,7 +28,7 @@ said_at t bytes offsets part p s piece is says = record { piece = piece; says = 
 
 pub bad_at : (t : TypeTree) (bytes offsets part : List ℕ) (p : ℕ) (e : StatisticsError) → IsPiece bytes offsets p → part ≡ piece_at bytes offsets p → IsBadNamedPiece t part e → IsBadAt t bytes offsets p (fault_of_piece p e)
 bad_at t bytes offsets part p refusals.OutOfMemory piece is bad = (piece, subst (λ xs. IsBadNamedPiece t xs refusals.OutOfMemory) is bad)
-bad_at t bytes offsets part p refusals.TooManyRows piece is bad = absurd bad
+bad_at t bytes offsets part p refusals.TooManyRows piece is bad = absurd bad.1
 bad_at t bytes offsets part p refusals.HasVariant piece is bad = (refl, piece, subst (λ xs. IsBadNamedPiece t xs refusals.HasVariant) is bad)
 bad_at t bytes offsets part p (refusals.BadBytes place) piece is bad = (refl, piece, subst (λ xs. IsBadNamedPiece t xs (refusals.BadBytes place)) is bad)
 

@@ -10,7 +10,7 @@ use Rattle.vortex_statistics.specs.Statistics.{Known, KnownBound}
 use Rattle.vortex_filter.specs.Formula.{Formula, comparison, null_test}
 use Rattle.filter_pruning.specs.Outcomes.{outcomes}
 use Rattle.vortex_filter.specs.declared.operator.CompareOperator.TheVariants.{Gte}
-use Rattle.column_filters.specs.Masks.{matching}
+use Rattle.column_kernels.specs.Masks.{matching}
 use Rattle.statistics_bytes.specs.Pieces.{nothing_known}
 use Rattle.column_filters.specs.Zones.{outcomes_byte, piece_at}
 

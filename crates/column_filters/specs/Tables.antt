@@ -1,5 +1,5 @@
 -- Columns of which a filter is asked, and why it cannot be.
-use Rattle.std.specs.Prelude.{◌≡◌, ◌≢◌, ◌⊎◌, ℕ, ◌<◌, ◌≤◌, Bool, true, false, List, length, map, slice_index_or, take}
+use Rattle.std.specs.Prelude.{◌≡◌, ◌≢◌, ℕ, ◌<◌, ◌≤◌, Bool, true, false, List, length, map, slice_index_or, take}
 use Rattle.std.specs.List.{All}
 use Rattle.arrow_columns.specs.Checked.{AreRowsOf}
 use Rattle.arrow_columns.specs.Errors.{IsErrorOf}
@@ -9,10 +9,12 @@ use Rattle.arrow_columns.specs.declared.tested_rows.Rows.TheVariants.{Nulls}
 use Rattle.vortex_dtype.specs.TypeTree.{Same, TypeTree, null_type}
 use Rattle.vortex_value.specs.Values.Content.{null}
 use Rattle.vortex_cells.specs.Cells.{Cell}
-use Rattle.vortex_filter.specs.Formula.{Formula, both, cell_at, comparison, constant, either, membership, negation, null_test, prefix_test, range}
+use Rattle.vortex_filter.specs.Formula.{Formula}
+use Rattle.vortex_filter.specs.Named.{AgreeIn, IsNamed}
 use Rattle.column_cells.specs.Contents.{HasTexts, contents_of_column, contents_of_rows}
 use Rattle.column_cells.specs.Tables.{AreSoundTo, HasFirstError}
 use Rattle.column_cells.specs.Types.{type_of_column, type_of_rows}
+use Rattle.column_kernels.specs.Words.{cells_of_row}
 use Rattle.arrow_columns.specs.Bitmaps.{bitmap_length}
 use Rattle.column_filters.specs.declared.errors.MaskError.{MaskError}
 use Rattle.column_filters.specs.declared.errors.MaskError.TheVariants.{BufferTooSmall, OutOfMemory, TypesDiffer, Unreadable, WrongCount, WrongLength}
@@ -26,27 +28,6 @@ cell_of_column row column = record { typed = type_of_column column; content = sl
 -- the cells of a row of columns
 abbrev pub cells_of_columns : List Column → ℕ → List Cell
 cells_of_columns columns row = map (cell_of_column row) columns
-
--- the same, of columns that were read
-abbrev pub cell_of_rows : ℕ → Rows → Cell
-cell_of_rows row rows = record { typed = type_of_rows rows; content = slice_index_or (contents_of_rows rows) row null }
-
-abbrev pub cells_of_rows : List Rows → ℕ → List Cell
-cells_of_rows columns row = map (cell_of_rows row) columns
-
--- ---- columns that a formula names
-
--- the formula has a test of the column at this place
-abbrev pub IsNamed : Formula → ℕ → Type 0
-IsNamed (constant t) k = ⊥
-IsNamed (comparison j op literal) k = j ≡ k
-IsNamed (null_test j) k = j ≡ k
-IsNamed (membership j literals) k = j ≡ k
-IsNamed (range j lower upper) k = j ≡ k
-IsNamed (prefix_test j prefix) k = j ≡ k
-IsNamed (both p q) k = IsNamed p k ⊎ IsNamed q k
-IsNamed (either p q) k = IsNamed p k ⊎ IsNamed q k
-IsNamed (negation p) k = IsNamed p k
 
 -- ---- reading columns
 
@@ -81,22 +62,14 @@ AreSoundBefore f columns types count k = AreSoundTo (IsSoundAt f types count) co
 abbrev pub HaveRows : List Rows → ℕ → Type 0
 HaveRows columns count = All (λ rows. (length (contents_of_rows rows) ≡ count) × HasTexts rows) columns
 
--- each column has this row, and strings that are UTF-8
-abbrev pub HasRow : List Rows → ℕ → Type 0
-HasRow columns row = All (λ rows. (row < length (contents_of_rows rows)) × HasTexts rows) columns
-
 -- there are as many columns as types, and each that the formula names is sound and has so many rows
 pub record AreColumnsOf (f : Formula) (columns : List Column) (types : List TypeTree) (count : ℕ) : Type 0 where
   pub counts : length columns ≡ length types
   pub sound : AreSoundBefore f columns types count (length columns)
 
--- the rows have the same cell in each column that the formula names
-abbrev pub AgreeIn : Formula → List Cell → List Cell → Type 0
-AgreeIn f xs ys = (k : ℕ) → IsNamed f k → cell_at xs k ≡ cell_at ys k
-
 -- these were read of the first columns, and have so many rows: of those that the formula names the column's own, and else nulls
 pub record AreReadFrom (f : Formula) (columns : List Column) (count k : ℕ) (read : List Rows) : Type 0 where
-  pub cells : (row : ℕ) → AgreeIn f (cells_of_rows read row) (cells_of_columns (take k columns) row)
+  pub cells : (row : ℕ) → AgreeIn f (cells_of_row read row) (cells_of_columns (take k columns) row)
   pub rows : HaveRows read count
 
 -- why a column at a place is not sound: the first reason in this order; or memory for its type was refused

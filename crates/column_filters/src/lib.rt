@@ -4,14 +4,14 @@
 //! be on the rows of many zones, by statistics in bytes.
 #![tactic(auto)]
 
-mod bits;
 mod errors;
 pub mod laws;
 mod masks;
 mod tables;
 mod zones;
 
+pub use column_kernels::write_mask;
 pub use errors::{MaskError, ZoneError};
-pub use masks::{mask_of_columns, write_mask};
+pub use masks::mask_of_columns;
 pub use tables::read_columns;
 pub use zones::outcomes_of_zones;

@@ -2,9 +2,9 @@
 
 ghost use Rattle.std.specs.Prelude.{◌≡◌, ◌↔◌, IfErr, IfOk, IsTrue, OnOk, false, length, map, replicate};
 ghost use Rattle.std.specs.Prelude.{slice_index_or, true};
-ghost use Rattle.column_filters.specs.Words.{AreColumnsOf, AreReadFrom, IsErrorAt, IsReadFrom, IsReadIf};
+ghost use Rattle.column_filters.specs.Words.{AreColumnsOf, AreMarked, AreReadFrom, IsErrorAt, IsReadFrom, IsReadIf};
 ghost use Rattle.column_filters.specs.Words.{IsTableError, Same};
-ghost use Rattle.column_filters.specs.Words.{OutOfMemory, formula, type_of, type_of_rows, with_columns};
+ghost use Rattle.column_filters.specs.Words.{OutOfMemory, formula, type_of, type_of_rows};
 
 use crate::errors::MaskError;
 use arrow_columns::{Column, Rows};
@@ -76,7 +76,7 @@ fn read_if_named<'a>(
 /// Whether a filter names a column, for each of so many.
 fn named_columns(alloc: Global, filter: &Filter, count: usize) -> Result<Vec<bool>, MaskError>
     ensures named { IfOk result
-        (λ named. named.items ≡ with_columns (formula filter.now) (replicate count false)) }
+        (λ named. AreMarked (formula filter.now) (replicate count false) named.items) }
     ensures refused { IfErr result (λ e. e ≡ OutOfMemory) }
 {
     let mut named = vec![in alloc; false; count]?;

@@ -1,11 +1,10 @@
 -- Steps of asking a prepared filter.
-use Rattle.std.proofs.Common.{◌≡◌, ◌≢◌, ℕ, zero, suc, ◌≤◌, arith, ◌⊎◌, inl, inr, List, [], ◌++◌, map, refl, subst, sym, ap, ◌∙◌}
+use Rattle.std.proofs.Common.{◌≡◌, ℕ, zero, suc, ◌≤◌, arith, ◌⊎◌, inl, inr, List, [], ◌++◌, map, refl, subst, sym, ap, ◌∙◌}
 use Rattle.arrow_columns.specs.declared.columns.Column.{Column}
-use Rattle.column_filters.specs.Masks.{IsMask, matching}
+use Rattle.column_filters.specs.Words.{IsMask, matching}
 use Rattle.column_filters.specs.Tables.{AreColumnsOf, IsMaskError, cells_of_columns}
 use Rattle.column_filters.specs.Zones.{AreOutcomes, RefusesZones}
 use Rattle.column_filters.specs.declared.errors.MaskError.{MaskError}
-use Rattle.column_filters.specs.declared.errors.MaskError.TheVariants as mask
 use Rattle.column_filters.specs.declared.errors.ZoneError.{ZoneError}
 use Rattle.filter_encoding.specs.Answers.{HasNoValue, IsFirstWrong, IsEncoding}
 use Rattle.filter_encoding.specs.Encoding.{EncodingsAreApart, HasEncoding, HasValues, IsFormed, IsLiteral, IsVersion, Nests, Prepared, encoding_in, prepared, version_of}
@@ -20,10 +19,9 @@ use Rattle.vortex_filter.specs.Formula.{Formula, constant, comparison, null_test
 use Rattle.vortex_c.specs.FilterLaws.{AreOfWords, FiltersAreOfWords}
 use Rattle.vortex_c.specs.FilterSql.{IsPreparedFrom, encoding_depth, prepared_of}
 use Rattle.vortex_c.specs.declared.sql.NamedKind.{NamedKind}
-use Rattle.vortex_c.specs.Filters.{AreFilterOutcomes, IsFilterMask, IsEncodingOf, IsRowsError, IsUnread, IsZonesError, status_of_mask}
+use Rattle.vortex_c.specs.Filters.{AreFilterOutcomes, IsFilterMask, IsEncodingOf, IsRowsError, IsUnread, IsZonesError}
 use Rattle.vortex_c.specs.declared.filters.RowsError.TheVariants as rows
 use Rattle.vortex_c.specs.declared.filters.ZonesError.TheVariants as zones
-use Rattle.vortex_c.specs.declared.status.TheConstants.{NO_MEMORY}
 
 -- why bytes are not read
 pub unread : (n : ℕ) (bytes : List ℕ) (e : FilterEncodingError) → (e ≡ OutOfMemory) ⊎ (((place : ℕ) × (e ≡ BadBytes place)) ⊎ ((place : ℕ) × (e ≡ NotAValue place))) → ((place : ℕ) → e ≡ BadBytes place → IsFirstWrong (IsEncoding n) bytes place)
@@ -43,9 +41,6 @@ mask-given n bytes q given columns count buffer same is_encoding are is = record
 
 pub no-mask : (n : ℕ) (bytes : List ℕ) (q : PreparedFilter) (given : List DType) (columns : List Column) (count size : ℕ) (e : MaskError) → given ≡ q.columns.items → IsEncodingOf n bytes (prepared q) → IsMaskError (formula q.filter) columns (map type_of given) count size e → IsRowsError n bytes columns count size (rows.NoMask e)
 no-mask n bytes q given columns count size e same is_encoding fault = (prepared q, is_encoding, subst (λ ts. IsMaskError (formula q.filter) columns (map type_of ts) count size e) same fault)
-
-pub kept-so : (e : MaskError) (P : Type 0) → (e ≢ mask.OutOfMemory → P) → status_of_mask e ≢ NO_MEMORY → P
-kept-so e P kept other = kept (λ same. other (ap status_of_mask same))
 
 -- zones
 

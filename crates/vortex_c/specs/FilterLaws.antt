@@ -1,7 +1,7 @@
 -- What was prepared from words is read back, as the filter that the words are.
 use Rattle.std.specs.Prelude.{◌≡◌, ℕ, ◌≤◌, List}
 use Rattle.arrow_columns.specs.declared.columns.Column.{Column}
-use Rattle.column_filters.specs.Masks.{IsMask, matching}
+use Rattle.column_filters.specs.Words.{IsMask, matching}
 use Rattle.column_filters.specs.Tables.{AreColumnsOf, cells_of_columns}
 use Rattle.column_filters.specs.Zones.{AreOutcomes}
 use Rattle.filter_encoding.specs.declared.error.FilterEncodingError.{FilterEncodingError}

@@ -1,7 +1,7 @@
 -- What callers are told of prepared filters, asked of rows and of zones.
 use Rattle.std.specs.Prelude.{◌≡◌, ℕ, List, length}
 use Rattle.arrow_columns.specs.declared.columns.Column.{Column}
-use Rattle.column_filters.specs.Masks.{IsMask, matching}
+use Rattle.column_filters.specs.Words.{IsMask, matching}
 use Rattle.column_filters.specs.Tables.{AreColumnsOf, IsMaskError, cells_of_columns}
 use Rattle.column_filters.specs.Zones.{AreOutcomes, RefusesZones}
 use Rattle.column_filters.specs.declared.errors.MaskError.{MaskError}

@@ -38,8 +38,8 @@ pub(crate) enum ZonesError {
 /// Which of so many rows of columns match a prepared filter: a bit for each, from the least
 /// significant one on. The columns are those that it was prepared for, in their order. If it was
 /// prepared for none, each row has the same bit. A column that the filter does not name is not looked
-/// at, whatever its kind and its buffers are. Memory is asked for the filter, for the columns, and for
-/// strings and bytes above 22 bytes.
+/// at, whatever its kind and its buffers are. Memory is asked for the filter and for the columns, before
+/// any bit is written: after another status than `GIVEN` the buffer is as it was.
 ///
 /// `depth` is how deep the words might nest that the filter was prepared from: `2 * depth + 5`
 /// connectives may nest in the encoding.
@@ -52,7 +52,7 @@ pub(crate) enum ZonesError {
 ///   or a column has another number of rows.
 /// - `UNKNOWN_KIND`: the kind of a column is none, or with place 1 is not the filter's.
 /// - `TOO_MANY_ROWS`, `TOO_SHORT`, `BAD_OFFSETS`, `NOT_UTF8`, `NOT_A_VALUE`: a column cannot be read.
-/// - `NO_MEMORY`: `fault` is not written, and the bits may say anything.
+/// - `NO_MEMORY`: `fault` is not written.
 #[unsafe(no_mangle)]
 pub extern "C" fn doqallin_filter_mask(
     alloc: Global,
@@ -71,7 +71,7 @@ pub extern "C" fn doqallin_filter_mask(
 
     // What is not said to be written stays.
     ensures rest { drop (bitmap_length count) buffer.new ≡ drop (bitmap_length count) buffer.old }
-    ensures kept { result ≢ GIVEN → result ≢ NO_MEMORY → buffer.new ≡ buffer.old }
+    ensures kept { result ≢ GIVEN → buffer.new ≡ buffer.old }
     ensures kept_fault { result ≡ GIVEN → fault.new ≡ fault.old }
 {
     match write_rows(alloc, filter, columns, count, encoding_depth(depth), buffer) {
@@ -94,8 +94,7 @@ fn write_rows(
     ensures refused { IfErr result
         (IsRowsError depth filter.now columns.now count (length buffer.old)) }
     ensures rest { drop (bitmap_length count) buffer.new ≡ drop (bitmap_length count) buffer.old }
-    ensures kept { IfErr result
-        (λ refusal. status_of_rows refusal ≢ NO_MEMORY → buffer.new ≡ buffer.old) }
+    ensures kept { IfErr result (λ _. buffer.new ≡ buffer.old) }
 {
     match read_filter(alloc, depth, filter) {
         Ok(prepared) => mask_by(alloc, &prepared, columns, count, buffer),
@@ -117,8 +116,7 @@ fn mask_by(
     ensures refused { (n : ℕ) (bytes : List ℕ) → IsEncodingOf n bytes (prepared filter.now)
         → IfErr result (IsRowsError n bytes columns.now count (length buffer.old)) }
     ensures rest { drop (bitmap_length count) buffer.new ≡ drop (bitmap_length count) buffer.old }
-    ensures kept { IfErr result
-        (λ refusal. status_of_rows refusal ≢ NO_MEMORY → buffer.new ≡ buffer.old) }
+    ensures kept { IfErr result (λ _. buffer.new ≡ buffer.old) }
 {
     match mask_of_columns(
         alloc,

@@ -1,0 +1,4 @@
+pub mod CellSteps
+mod EvaluationSteps
+mod MaskSteps
+pub mod RowTests

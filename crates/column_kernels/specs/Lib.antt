@@ -1,0 +1,6 @@
+pub mod Examples
+pub mod FilterWords
+pub mod Masks
+pub mod Rows
+pub mod Truths
+pub mod Words

@@ -1,0 +1,5 @@
+pub mod BitSteps
+pub mod TruthSteps
+pub mod BlockSteps
+pub mod ByteSteps
+pub mod RowSteps

@@ -1,0 +1,7 @@
+use Rattle.truth_bitmaps.specs.Truths.{no_row, truth_in, truth_not}
+use Rattle.std.proofs.Common.{slice_index_or}
+use Rattle.truth_bitmaps.proofs.BlockSteps.{Written}
+use Rattle.truth_bitmaps.proofs.blocks.not_words.Given as goal
+
+abbrev pub invariant-loop-k : goal.invariant-loop-k
+invariant-loop-k l = Written (λ j row. truth_not (truth_in (slice_index_or l.fn.words j no_row) row)) l.fn.words l.words l.k
