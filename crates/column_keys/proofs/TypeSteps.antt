@@ -4,15 +4,16 @@ use Rattle.std.specs.List.{position, position_or_len}
 use Rattle.std.specs.Option.{is_none}
 use Rattle.std.specs.Prelude.{Result, Ok, Err, IsErr, IsErrAnd, IfErr}
 use Rattle.std.proofs.lemmas.Bool.Decides.{nat_tests}
-use Rattle.std.proofs.lemmas.List.{get_or-map, length-map, map-append, take_more}
+use Rattle.std.proofs.lemmas.List.{length-map, map-append, take_more}
 use Rattle.std.proofs.lemmas.List.Quantifiers.{position-Some}
 use Rattle.std.proofs.lemmas.List.Sums.{prefix_len_passes}
 use Rattle.arrow_columns.specs.declared.kinds.Kind.{Kind}
 use Rattle.column_cells.specs.Types.{type_at, type_of_kind}
 use Rattle.vortex_dtype.specs.TypeOf.{type_of}
 use Rattle.vortex_dtype.specs.declared.types.DType.{DType}
-use Rattle.column_keys.specs.Types.{AreKinds, IsFirstUnknown, types_of_kinds}
+use Rattle.column_keys.specs.Types.{AreOptions, HaveLengths, HaveTypes, IsTypesError, types_of_kinds}
 use Rattle.column_keys.specs.declared.errors.KeysError.{KeysError}
+use Rattle.column_keys.specs.declared.errors.KeysError.TheVariants.{OutOfMemory, UnknownKind}
 
 -- one element more
 pub mapped-more : {X Y : Type 0} (f : X → Y) (codes : List X) (k : ℕ) (d : X) (found more : List Y) (one : Y) → k < length codes → found ≡ map f (take k codes) → one ≡ f (get_or codes k d) → more ≡ found ++ one ∷ [] → more ≡ map f (take (k + 1) codes)
@@ -49,22 +50,32 @@ nowhere p xs k d e l =
     let far : k < position_or_len p xs = grind (arith, nat_tests) in
     not-true (p (get_or xs k d)) (prefix_len_passes (λ x. not (p x)) xs k d far)
 
-module _ {X : Type 0} (f : X → Option Kind) (codes : List X) (d : X) where
-  mapped : (k : ℕ) → k < length codes → get_or (map f codes) k None ≡ f (get_or codes k d)
-  mapped k l = get_or-map f codes k d None l
+-- the first code of no kind is the first of the kinds that is none
+len-among : {X : Type 0} (f : X → Option Kind) (codes : List X) → position_or_len is_none (map f codes) ≡ position_or_len (λ code. is_none (f code)) codes
+len-among f [] = refl
+len-among f (code ∷ codes) = ap (λ n. cond (not (is_none (f code))) (1 + n) 0) (len-among f codes)
 
-  pub unknown-first : (k : ℕ) → position (λ code. is_none (f code)) codes ≡ Some k → IsFirstUnknown (map f codes) k
-  unknown-first k e =
-      let found = position-Some (λ code. is_none (f code)) codes k d e in (
-        omega (arith, found.0, length-map codes f),
-        λ j l none. some-is (f (get_or codes j d)) (found.2 j l) (sym (mapped j (omega (arith, l, found.0))) ∙ none),
-        mapped k found.0 ∙ none-is (f (get_or codes k d)) found.1,
-      )
+first-among : {X : Type 0} (f : X → Option Kind) (codes : List X) → position is_none (map f codes) ≡ position (λ code. is_none (f code)) codes
+first-among f codes = ap₂ (λ n l. cond (nat_lt n l) (Some n) None) (len-among f codes) (length-map codes f)
 
-  pub all-known : position (λ code. is_none (f code)) codes ≡ None → AreKinds (map f codes) (length (map f codes))
-  all-known e k l none =
-      let within : k < length codes = omega (arith, l, length-map codes f) in
-      some-is (f (get_or codes k d)) (nowhere (λ code. is_none (f code)) codes k d e within) (sym (mapped k within) ∙ none)
+module _ {X : Type 0} (f : X → Option Kind) (codes : List X) (options : List ℕ) (columns : ℕ) (as-many : length options ≡ length codes) (all-there : columns ≡ length codes) (sorted : AreOptions options (length options)) where
+  lengths : HaveLengths (map f codes) options columns
+  lengths = (as-many ∙ sym (length-map codes f), all-there ∙ sym (length-map codes f))
+
+  pub first-unknown : (k : ℕ) → position (λ code. is_none (f code)) codes ≡ Some k → IsTypesError (map f codes) options columns (UnknownKind k)
+  first-unknown k e =
+      let found = position-Some is_none (map f codes) k None (first-among f codes ∙ e) in
+      (lengths, sorted, (found.0, λ j l none. some-is (get_or (map f codes) j None) (found.2 j l) none, none-is (get_or (map f codes) k None) found.1))
+
+  pub have-types : position (λ code. is_none (f code)) codes ≡ None → HaveTypes (map f codes) options
+  have-types e = record {
+    counts = lengths.0;
+    options' = sorted;
+    kinds = λ k l none. some-is (get_or (map f codes) k None) (nowhere is_none (map f codes) k None (first-among f codes ∙ e) l) none;
+  }
+
+  pub no-memory : position (λ code. is_none (f code)) codes ≡ None → IsTypesError (map f codes) options columns OutOfMemory
+  no-memory e = (lengths, have-types e)
 
 -- a refusal that is passed on
 pub passed-on : {X : Type 0} (r : Result X KeysError) (e : KeysError) (P : KeysError → Type 0) → IsErr r × IsErrAnd r (λ f. f ≡ e) → P e → IfErr r P

@@ -1,5 +1,5 @@
 -- What is answered of kinds, options and keys as they come.
-use Rattle.std.specs.Prelude.{◌≡◌, ◌≢◌, ℕ, ◌<◌, ◌⊎◌, List, map, Option, None, Some, length, slice_index_or}
+use Rattle.std.specs.Prelude.{◌≡◌, ℕ, ◌<◌, List, map, Option, None, Some, length, slice_index_or}
 use Rattle.arrow_columns.specs.declared.kinds.Kind.{Kind}
 use Rattle.column_keys.specs.Tables.{options_in}
 use Rattle.vortex_dtype.specs.TypeOf.{as_type_trees}
@@ -9,10 +9,10 @@ use Rattle.column_keys.specs.Cells.{AreCellsOf}
 use Rattle.column_keys.specs.Errors.{IsFirstError}
 use Rattle.column_keys.specs.Layout.{values_length}
 use Rattle.column_keys.specs.Read.{AreStored, HasSpace, IsFirstNoValue, IsWritten}
-use Rattle.column_keys.specs.Types.{AreOptions, HaveTypes, IsFirstBadOptions, IsFirstUnknown, types_of_kinds}
+use Rattle.column_keys.specs.Types.{HaveLengths, HaveTypes, IsTypesError, types_of_kinds}
 use Rattle.column_keys.specs.declared.buffers.ColumnBuffers.{ColumnBuffers}
 use Rattle.column_keys.specs.declared.errors.KeysError.{KeysError}
-use Rattle.column_keys.specs.declared.errors.KeysError.TheVariants.{BadBytes, BadOffsets, BadOptions, BufferTooSmall, NotAValue, OutOfMemory, UnknownKind, WrongLength}
+use Rattle.column_keys.specs.declared.errors.KeysError.TheVariants.{BadBytes, BadOffsets, BufferTooSmall, NotAValue}
 
 -- what the column has in all rows, by the kinds and the bytes of options
 abbrev pub AreCellsBy : List (Option Kind) → List ℕ → ℕ → List ℕ → List ℕ → List Content → Type 0
@@ -65,19 +65,12 @@ pub record LacksValue (found : List (Option Kind)) (options bytes offsets : List
   pub before : (which : ℕ) (other : Kind) → which < column → slice_index_or found which None ≡ Some other
       → (others : List Content) × HasCells found options which bytes offsets other others × AreStored other others (length others)
 
--- there are as many options as kinds, and as many buffers
-abbrev pub HaveLengths : List (Option Kind) → List ℕ → List ColumnBuffers → Type 0
-HaveLengths found options columns = (length options ≡ length found) × (length columns ≡ length found)
-
--- why keys give no columns in these buffers: the first reason in this order. Memory is asked for once the lengths, options and kinds are right
+-- why keys give no columns in these buffers: the columns have no types, or else the first reason in this order
 abbrev pub IsRefusal : List (Option Kind) → List ℕ → List ℕ → List ℕ → List ColumnBuffers → KeysError → Type 0
-IsRefusal found options bytes offsets columns WrongLength = (length options ≢ length found) ⊎ (length columns ≢ length found)
-IsRefusal found options bytes offsets columns (BadOptions k) = HaveLengths found options columns × IsFirstBadOptions options k
-IsRefusal found options bytes offsets columns (UnknownKind k) = HaveLengths found options columns × AreOptions options (length options) × IsFirstUnknown found k
-IsRefusal found options bytes offsets columns OutOfMemory = HaveLengths found options columns × HaveTypes found options
 IsRefusal found options bytes offsets columns (BadOffsets row) =
-    HaveLengths found options columns × HaveTypes found options × IsFirstError (map options_in options) (as_type_trees (types_of_kinds found)) bytes offsets (BadOffsets row)
+    HaveLengths found options (length columns) × HaveTypes found options × IsFirstError (map options_in options) (as_type_trees (types_of_kinds found)) bytes offsets (BadOffsets row)
 IsRefusal found options bytes offsets columns (BadBytes place) =
-    HaveLengths found options columns × HaveTypes found options × IsFirstError (map options_in options) (as_type_trees (types_of_kinds found)) bytes offsets (BadBytes place)
-IsRefusal found options bytes offsets columns (NotAValue column row) = HaveLengths found options columns × HaveTypes found options × LacksValue found options bytes offsets column row
-IsRefusal found options bytes offsets columns BufferTooSmall = HaveLengths found options columns × HaveTypes found options × LacksBuffer found options bytes offsets columns
+    HaveLengths found options (length columns) × HaveTypes found options × IsFirstError (map options_in options) (as_type_trees (types_of_kinds found)) bytes offsets (BadBytes place)
+IsRefusal found options bytes offsets columns (NotAValue column row) = HaveLengths found options (length columns) × HaveTypes found options × LacksValue found options bytes offsets column row
+IsRefusal found options bytes offsets columns BufferTooSmall = HaveLengths found options (length columns) × HaveTypes found options × LacksBuffer found options bytes offsets columns
+IsRefusal found options bytes offsets columns fault = IsTypesError found options (length columns) fault

@@ -17,7 +17,7 @@ pub use Rattle.column_keys.specs.Layout.{AreBits, AreIntegers, AreNumbers, AreSt
 pub use Rattle.column_keys.specs.Read.{AreStored}
 pub use Rattle.column_keys.specs.Tables.{AreReadFrom, AreSoundBefore, HasRow, HaveRows, IsErrorAt, IsReadFrom, IsTableError, contents_in, options_in, options_of, table_of}
 pub use Rattle.arrow_columns.specs.Columns.{rows_in}
-pub use Rattle.column_keys.specs.Types.{AreKinds, AreOptions, HaveTypes, IsFirstBadOptions, IsKindsError, IsOptionsError, types_of_kinds}
+pub use Rattle.column_keys.specs.Types.{AreKinds, AreOptions, HaveTypes, IsFirstBadOptions, IsOptionsError, IsTypesError, types_of_kinds}
 pub use Rattle.column_keys.specs.declared.errors.KeysError.TheVariants.{BadBytes, BadOffsets, BadOptions, BufferTooSmall, OutOfMemory, UnknownKind, WrongLength}
 pub use Rattle.vortex_dtype.specs.PTypes.{byte_width_of}
 pub use Rattle.vortex_dtype.specs.TypeOf.{type_of}

@@ -9,7 +9,7 @@ use crate::counting::count_columns;
 use crate::errors::KeysError;
 use crate::keys::{RowKeys, read_rows};
 use crate::stored::expect_values;
-use crate::types::{expect_options, kinds_of_codes, kinds_of_typed_codes, read_types};
+use crate::types::{kinds_of_codes, read_types};
 use crate::writing::write_columns;
 use arrow_columns::Kind;
 use column_items::KindCode;
@@ -49,11 +49,7 @@ pub fn columns_of_keys(
         → AreCountsOfKeys (map kind_at kinds.now) options.now bytes.now offsets.now columns.old columns.new) }
     ensures kept { IfErr result (λ e. e ≢ BufferTooSmall → columns.new ≡ columns.old) }
 {
-    if options.len() != kinds.len() || columns.len() != kinds.len() {
-        return Err(KeysError::WrongLength);
-    }
-    expect_options(options)?;
-    let found = kinds_of_codes(alloc, kinds)?;
+    let found = kinds_of_codes(alloc, kinds, options, columns.len())?;
     columns_of_kinds(alloc, found.as_slice(), options, offsets, bytes, columns)
 }
 
@@ -75,11 +71,7 @@ pub fn columns_of_typed_keys(
         columns.new) }
     ensures kept { IfErr result (λ e. e ≢ BufferTooSmall → columns.new ≡ columns.old) }
 {
-    if options.len() != kinds.len() || columns.len() != kinds.len() {
-        return Err(KeysError::WrongLength);
-    }
-    expect_options(options)?;
-    let found = kinds_of_typed_codes(alloc, kinds)?;
+    let found = kinds_of_codes(alloc, kinds, options, columns.len())?;
     columns_of_kinds(alloc, found.as_slice(), options, offsets, bytes, columns)
 }
 

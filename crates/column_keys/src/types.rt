@@ -1,10 +1,11 @@
 //! What keys are keys of: the types of columns, and how each is sorted.
 
-ghost use Rattle.std.specs.Prelude.{◌≡◌, ◌≢◌, IfErr, IfOk, MatchOption, None, OnOk, Some, is_none, length, map};
-ghost use Rattle.std.specs.Prelude.{position};
-ghost use Rattle.column_keys.specs.Words.{AreKinds, AreOptions, IsFirstBadOptions, IsKindsError, IsOptionsError};
-ghost use Rattle.column_keys.specs.Words.{OutOfMemory, kind_at, kind_of_code, options_in, type_of, type_of_kind};
-ghost use Rattle.column_keys.specs.Words.{types_of_kinds};
+ghost use Rattle.std.specs.Prelude.{◌≡◌, ◌≢◌, IfErr, IfOk, MatchOption, None, OnOk, Option, Some, is_none, length};
+ghost use Rattle.std.specs.Prelude.{map, position};
+ghost use Rattle.arrow_columns.specs.declared.kinds.Kind.{Kind};
+ghost use Rattle.column_keys.specs.Words.{AreKinds, AreOptions, HaveTypes, IsFirstBadOptions, IsOptionsError};
+ghost use Rattle.column_keys.specs.Words.{IsTypesError, OutOfMemory, kind_at, kind_of_code, options_in, type_of};
+ghost use Rattle.column_keys.specs.Words.{type_of_kind, types_of_kinds};
 
 use crate::errors::KeysError;
 use crate::key_columns::options_of_bits;
@@ -43,56 +44,66 @@ fn first_bad_options(options: &[u8]) -> Option<usize>
     options.iter().position(|byte| *byte > 3)
 }
 
-/// The kinds with these codes. `UnknownKind` for the first code of no kind, before memory is asked for.
-pub(crate) fn kinds_of_codes(alloc: Global, codes: &[u8]) -> Result<Vec<Option<Kind>>, KeysError>
-    ensures kinds { IfOk result (λ kinds. kinds.items ≡ map kind_at codes.now) }
-    ensures known { OnOk result (AreKinds (map kind_at codes.now) (length (map kind_at codes.now))) }
-    ensures fault { IfErr result (IsKindsError (map kind_at codes.now)) }
+/// A code of a kind of columns: plain, or with a precision and a scale.
+pub(crate) trait ToKind {
+    ghost kind_of: { Self → Option Kind };
+
+    /// The kind, if there is one.
+    fn to_kind(&self) -> Option<Kind>
+        ensures { result ≡ kind_of self.now };
+}
+
+impl ToKind for u8 {
+    ghost kind_of = { kind_at };
+
+    fn to_kind(&self) -> Option<Kind> {
+        Kind::from_code(*self)
+    }
+}
+
+impl ToKind for KindCode {
+    ghost kind_of = { kind_of_code };
+
+    fn to_kind(&self) -> Option<Kind> {
+        self.kind()
+    }
+}
+
+/// The kinds with these codes, of so many columns with a byte of options each.
+///
+/// `WrongLength` if they are not as many as each other, before all else. Then `BadOptions` for the
+/// first byte that stands for no options, and `UnknownKind` for the first code of no kind, before
+/// memory is asked for.
+pub(crate) fn kinds_of_codes<C: ToKind>(
+    alloc: Global,
+    codes: &[C],
+    options: &[u8],
+    columns: usize,
+) -> Result<Vec<Option<Kind>>, KeysError>
+    ensures kinds { IfOk result (λ kinds. kinds.items ≡ map C.kind_of codes.now) }
+    ensures types { OnOk result (HaveTypes (map C.kind_of codes.now) options.now) }
+    ensures columns { OnOk result (columns ≡ length codes.now) }
+    ensures fault { IfErr result (IsTypesError (map C.kind_of codes.now) options.now columns) }
 {
+    if options.len() != codes.len() || columns != codes.len() {
+        return Err(KeysError::WrongLength);
+    }
+    expect_options(options)?;
     if let Some(column) = first_unknown(codes) {
         return Err(KeysError::UnknownKind { column });
     }
     let mut kinds = Vec::with_capacity(alloc, codes.len())?;
-    for place in 0..codes.len() {
-        kinds.push(Kind::from_code(codes[place]))?;
+    for code in codes {
+        kinds.push(code.to_kind())?;
     }
     Ok(kinds)
 }
 
 /// The first code of no kind.
-fn first_unknown(codes: &[u8]) -> Option<usize>
-    ensures { result ≡ position (λ code. is_none (kind_at code)) codes.now }
+fn first_unknown<C: ToKind>(codes: &[C]) -> Option<usize>
+    ensures { result ≡ position (λ code. is_none (C.kind_of code)) codes.now }
 {
-    codes
-        .iter()
-        .position(|code| Kind::from_code(*code).is_none())
-}
-
-/// The same of codes with a precision and a scale.
-pub(crate) fn kinds_of_typed_codes(
-    alloc: Global,
-    codes: &[KindCode],
-) -> Result<Vec<Option<Kind>>, KeysError>
-    ensures kinds { IfOk result (λ kinds. kinds.items ≡ map kind_of_code codes.now) }
-    ensures known { OnOk result
-        (AreKinds (map kind_of_code codes.now) (length (map kind_of_code codes.now))) }
-    ensures fault { IfErr result (IsKindsError (map kind_of_code codes.now)) }
-{
-    if let Some(column) = first_unknown_typed(codes) {
-        return Err(KeysError::UnknownKind { column });
-    }
-    let mut kinds = Vec::with_capacity(alloc, codes.len())?;
-    for place in 0..codes.len() {
-        kinds.push(codes[place].kind())?;
-    }
-    Ok(kinds)
-}
-
-/// The first such code of no kind.
-fn first_unknown_typed(codes: &[KindCode]) -> Option<usize>
-    ensures { result ≡ position (λ code. is_none (kind_of_code code)) codes.now }
-{
-    codes.iter().position(|code| code.kind().is_none())
+    codes.iter().position(|code| code.to_kind().is_none())
 }
 
 /// The kind that was found.

@@ -1,7 +1,6 @@
 -- The kinds so far.
 use Rattle.std.proofs.Common.{◌≡◌, map, take}
-use Rattle.arrow_columns.specs.Kinds.{kind_at}
 use Rattle.column_keys.proofs.types.kinds_of_codes.Given as goal
 
-abbrev pub invariant-loop-place : goal.invariant-loop-place
-invariant-loop-place l = l.kinds.items ≡ map kind_at (take l.place l.codes)
+abbrev pub invariant-loop-code : goal.invariant-loop-code
+invariant-loop-code g l = l.kinds.items ≡ map g.C.ToKind.kind_of (take l.code-index l.codes)
