@@ -1,4 +1,5 @@
 mod ColumnRows
+mod ConstantRows
 mod FilterSteps
 mod FloatTruths
 mod GivenZeros

@@ -7,6 +7,7 @@
 
 pub mod column_pieces;
 pub mod columns_of_keys;
+pub mod constants;
 pub mod fillings;
 pub mod filter_laws;
 pub mod filter_texts;

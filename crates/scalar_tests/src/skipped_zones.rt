@@ -7,8 +7,8 @@ ghost use Rattle.column_cells.specs.Types.{type_of_column};
 ghost use Rattle.vortex_dtype.specs.TypeTree.{TypeTree};
 ghost use Rattle.vortex_cells.specs.Cells.{Cell};
 ghost use Rattle.vortex_filter.specs.Formula.{Formula, is_match};
-ghost use Rattle.column_filters.specs.Masks.{matching};
 ghost use Rattle.column_filters.specs.Tables.{cells_of_columns};
+ghost use Rattle.column_filters.specs.Words.{matching};
 ghost use Rattle.column_filters.specs.Zones.{ArePiecesRight, IsOutcome};
 ghost use Rattle.scalar_tests.specs.Pieces.{AreEven, ArePiecesOf, AreWrittenRight};
 

@@ -20,6 +20,7 @@ fn answer_line<'a>(run: Run<'a>, line: &'a [u8]) -> Result<AnsweredLine<'a>, All
     logical_calls::answer(&mut line);
     membership_calls::answer(&mut line);
     pattern_calls::answer(&mut line);
+    constant_calls::answer(&mut line);
     let expected = line.expected();
     Ok(AnsweredLine {
         answer: line.into_answer()?,

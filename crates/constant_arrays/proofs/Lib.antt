@@ -1,0 +1,3 @@
+mod Repeated
+mod Rows
+mod EqualColumns
