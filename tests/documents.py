@@ -13,7 +13,7 @@ ELSEWHERE = set(
     CoercePValue struct_unchecked unwrap_or_else tidy plant only incremental Proof
     my_crate new1 price stock Ibindings Lbindings WHAT_GOES_WRONG""".split()
 )
-SMALL = "zero one two three four five six seven eight nine ten eleven twelve thirteen fourteen fifteen sixteen seventeen".split()
+SMALL = "zero one two three four five six seven eight nine ten eleven twelve thirteen fourteen fifteen sixteen seventeen eighteen nineteen".split()
 NUMBERS = {**{word: at for at, word in enumerate(SMALL)}, "forty": 40, "a thousand": 1000}
 texts = {}
 
@@ -325,6 +325,7 @@ def of_tests():
         ("docs/TESTING.md", "that {} random rows in each of {} columns", [constant("tests/keys", "ROWS"), columns]),
         ("docs/TESTING.md", "for {} random filters over {} tables", [tables * each, tables]),
         ("docs/TESTING.md", "for {} random zones", [tables * each * zones]),
+        ("docs/TESTING.md", "the words of {} random values of each logical type", [constant("tests/words", "VALUES")]),
         ("docs/TESTING.md", "the stored cases of {} calls", [line_after("bench/values", "CALLS = (").count('"') // 2]),
         ("docs/TESTING.md", "which it builds: {} random values of each call", [int(values)]),
     ]
