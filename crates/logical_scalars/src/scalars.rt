@@ -6,6 +6,7 @@ ghost use Rattle.vortex_value.specs.Words.{GivesOrNoMemory, IsMadeOf, IsValid, O
 ghost use Rattle.vortex_dtype.specs.Words.{type_of};
 ghost use Rattle.logical_scalars.specs.Stored.{Holds, IsOfLogicalType, logical_tree, raw_storage, storage_tree};
 ghost use Rattle.logical_types.specs.Extensions.{FitsStorage, storage_type_of};
+ghost use Rattle.logical_types.specs.Printed.{IsPrinted};
 ghost use Rattle.logical_types.specs.Words.{IsStorageOf, Writes};
 
 use crate::types::{extension_of, is_of_logical_type};
@@ -155,15 +156,17 @@ fn storage_in(kind: StorageType, value: &ScalarValue) -> Option<i128>
     }
 }
 
-/// A word of the value that a scalar of a logical type is, which is read as that value. None of a null, and
-/// of a scalar that is no value of the type.
+/// The word of the value that a scalar of a logical type is, which is read as that value. None of a null,
+/// and of a scalar that is no value of the type.
 pub fn word_of_scalar(
     alloc: Global,
     logical: LogicalType,
     scalar: &Scalar,
 ) -> Result<Option<String>, AllocError>
-    ensures { IfOk result (λ word. MatchOption word ((z : ℤ) → ¬ (Holds logical z scalar.now))
+    ensures reads { IfOk result (λ word. MatchOption word ((z : ℤ) → ¬ (Holds logical z scalar.now))
         (λ text. (z : ℤ) × Holds logical z scalar.now × Writes logical (string_bytes text) z)) }
+    ensures printed { IfOk result (λ word. IfSome word
+        (λ text. (z : ℤ) × Holds logical z scalar.now × IsPrinted logical (string_bytes text) z)) }
 {
     match storage_of_scalar(logical, scalar) {
         Some(storage) => word_of_storage(alloc, logical, storage),

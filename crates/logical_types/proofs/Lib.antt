@@ -5,6 +5,7 @@ mod DecimalsExact
 mod FloatWords
 mod NamesBack
 mod OneValue
+mod OneWord
 mod PlacesAre
 mod PlacesShown
 mod ShapeNames

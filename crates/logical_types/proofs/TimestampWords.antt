@@ -20,6 +20,7 @@ use Rattle.jiff_fmt.specs.declared.temporal.pieces.PiecesOffset.{PiecesOffset}
 use Rattle.jiff_fmt.specs.Temporal.{zulu, temporal_datetime, date_spec, date_parts, offset_piece_view, parse_pieces, parts_nanos, piece_seconds, pieces_result_view, pieces_view, time_parts}
 use Rattle.logical_types.specs.declared.times.TimeUnit.{TimeUnit}
 use Rattle.logical_types.specs.declared.times.TimeUnit.TheVariants.{Seconds, Milliseconds, Microseconds, Nanoseconds}
+use Rattle.logical_types.specs.Printed.{civil_text}
 use Rattle.logical_types.specs.Times.{nanoseconds_of, has_separators, moment_at, moment_of_pieces, moment_of_time, moment_or_midnight, moment_written, timestamp_written}
 
 -- what the clock of a date and a time shows
@@ -112,6 +113,10 @@ zulu_reads dt =
   where
     minus_zero : (x : ℤ) → x -ℤ nanos_of_seconds (pos 0) ≡ x
     minus_zero x = omega (arith, signed_arith)
+
+pub civil_reads : (z : Bool) (dt : DateTime) → moment_written z (civil_text z dt) ≡ Some (civil_nanos dt)
+civil_reads false dt = plain_reads dt
+civil_reads true dt = zulu_reads dt
 
 -- a moment that is read is the timestamp's
 pub moment_first : (z : Bool) (word : List ℕ) (m : ℤ) → moment_written z word ≡ Some m → timestamp_written z word ≡ Some m

@@ -6,6 +6,7 @@ pub mod Extensions
 pub mod Floats
 pub mod Names
 pub mod Places
+pub mod Printed
 pub mod ShapeExamples
 pub mod Shapes
 pub mod Storing

@@ -3,6 +3,7 @@
 
 ghost use Rattle.std.specs.Prelude.{◌≡◌, ◌<◌, ◌↔◌, ◌*ℤ◌, ℤ, IfNone, IfSome, IsSome, pos};
 ghost use Rattle.logical_types.specs.Clock.{IsTimeOfDay, IsTimeWord, time_written};
+ghost use Rattle.logical_types.specs.Printed.{IsTimeText};
 ghost use Rattle.logical_types.specs.Times.{nanoseconds_of};
 
 use crate::times::{DAY, TimeUnit, moment_of_word};
@@ -45,10 +46,12 @@ fn time_of_moment(unit: TimeUnit, moment: i128) -> Option<i64>
     i64::try_from(moment / nanoseconds).ok()
 }
 
-/// The word of a time of day, if a day has it.
+/// The word of a time of day, as `14:05:57.25`, if a day has it. A fraction of a second ends in its last
+/// digit that is not 0.
 pub fn word_of_time(unit: TimeUnit, time: i64) -> Option<ArrayString<18>>
     ensures some { IsSome result ↔ IsTimeOfDay unit time }
     ensures word { IfSome result (λ word. IsTimeWord unit word.bytes time) }
+    ensures text { IfSome result (λ word. IsTimeText unit word.bytes time) }
 {
     match nanoseconds_after_midnight(unit, time) {
         Some(nanoseconds) => {

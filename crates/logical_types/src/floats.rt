@@ -4,6 +4,7 @@
 ghost use Rattle.std.specs.Prelude.{◌≡◌, ◌≤◌, IfSome, IsAscii, Some, length};
 ghost use Rattle.std.specs.Float.{binary32, binary64};
 ghost use Rattle.float_storage.specs.Storage.{IsStorage, storage_of};
+ghost use Rattle.logical_types.specs.Printed.{IsFloatText};
 ghost use Rattle.logical_types.specs.Floats.{finite, has_digit, storage_written};
 ghost use Rattle.fast_float.specs.Rounding.{nearest_to_decimal};
 
@@ -83,14 +84,18 @@ pub fn f32_storage_of_parts(is_negative: bool, digits: u64, exponent: i64) -> Op
     }
 }
 
-/// The shortest word of the f64 with this storage that is read as it: of infinities `inf` and `-inf`.
+/// A short word of the f64 with this storage that is read as it: of zero `0.0`, of infinities `inf` and
+/// `-inf`, and `NaN`.
 pub fn word_of_f64_storage(storage: i64, buffer: &mut Buffer) -> &str
     requires { IsStorage binary64 storage }
     ensures reads { storage_written binary64 result.now ≡ Some storage }
+    ensures text { IsFloatText binary64 16 4 result.now storage }
     ensures short { length result.now ≤ 25 }
     ensures ascii { IsAscii result.now }
 {
-    if storage == INFINITY_64 {
+    if storage == 0 {
+        "0.0"
+    } else if storage == INFINITY_64 {
         "inf"
     } else if storage == -INFINITY_64 {
         "-inf"
@@ -103,10 +108,13 @@ pub fn word_of_f64_storage(storage: i64, buffer: &mut Buffer) -> &str
 pub fn word_of_f32_storage(storage: i32, buffer: &mut Buffer) -> &str
     requires { IsStorage binary32 storage }
     ensures reads { storage_written binary32 result.now ≡ Some storage }
+    ensures text { IsFloatText binary32 13 5 result.now storage }
     ensures short { length result.now ≤ 25 }
     ensures ascii { IsAscii result.now }
 {
-    if storage == INFINITY_32 {
+    if storage == 0 {
+        "0.0"
+    } else if storage == INFINITY_32 {
         "inf"
     } else if storage == -INFINITY_32 {
         "-inf"

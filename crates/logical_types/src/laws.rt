@@ -2,11 +2,12 @@
 //! Laws of words, each the contract of a function that does nothing.
 
 ghost use mir.Syntax.{w128};
-ghost use Rattle.std.specs.Prelude.{◌≡◌, ◌<◌, ◌↔◌, ◌^◌, FitsSigned, ℕ, ℤ, List, Some, unsigned_abs};
+ghost use Rattle.std.specs.Prelude.{◌≡◌, ◌<◌, ◌↔◌, ◌^◌, FitsSigned, false, ℕ, ℤ, List, Some, unsigned_abs};
 ghost use Rattle.logical_types.specs.DecimalWorth.{IsWorth};
 ghost use Rattle.logical_types.specs.Decimals.{decimal_text, decimal_value};
 ghost use Rattle.logical_types.specs.Extensions.{FitsStorage, IsExtension, storage_type_of};
 ghost use Rattle.logical_types.specs.Places.{IsPlaceOfWord, fine_scale};
+ghost use Rattle.logical_types.specs.Printed.{IsPrinted, is_float};
 ghost use Rattle.logical_types.specs.Shapes.{Shape, place_in, shape_of, shape_of_extension, storage_in};
 ghost use Rattle.logical_types.specs.declared.logical.LogicalType.{LogicalType as LogicalTypes};
 ghost use Rattle.logical_types.specs.Storing.{decimal_bytes};
@@ -60,6 +61,14 @@ pub fn storages_fit(logical: LogicalType)
 /// A word writes one value of a type: so what is written is read as the same.
 pub fn a_word_is_of_one_value(logical: LogicalType)
     ensures { (word : List ℕ) (y z : ℤ) → Writes logical word y → Writes logical word z → y ≡ z }
+{
+    let _ = logical;
+}
+
+/// One word is printed of a value, unless it is a float: two words that are printed of it are the same.
+pub fn a_value_has_one_word(logical: LogicalType)
+    ensures { (word other : List ℕ) (z : ℤ) → is_float logical ≡ false
+        → IsPrinted logical word z → IsPrinted logical other z → word ≡ other }
 {
     let _ = logical;
 }

@@ -3,6 +3,7 @@
 
 ghost use Rattle.std.specs.Prelude.{◌≡◌, ◌↔◌, ◌*ℤ◌, ℤ, Some, IfNone, IfSome, IsSome, pos, slice_index};
 ghost use Rattle.jiff_core.specs.DateTime.{civil_nanos};
+ghost use Rattle.logical_types.specs.Printed.{IsTimestampText, civil_text};
 ghost use Rattle.logical_types.specs.Times.{IsTimestamp, IsTimestampWord};
 ghost use Rattle.logical_types.specs.Times.{has_separators, midnight_written, moment_written, nanoseconds_of};
 ghost use Rattle.logical_types.specs.Times.{timestamp_written};
@@ -75,11 +76,13 @@ fn midnight_of_word(word: &[u8]) -> Option<i128>
     }
 }
 
-/// The word of a timestamp, if the calendar has it: the years are -9999 to 9999. With a zone it ends in
-/// `Z`, and is the time in UTC.
+/// The word of a timestamp, as `2026-03-01T14:05:57.25`, if the calendar has it: the years are -9999 to
+/// 9999. With a zone it ends in `Z`, and is the time in UTC. A fraction of a second ends in its last digit
+/// that is not 0.
 pub fn word_of_timestamp(unit: TimeUnit, is_zoned: bool, timestamp: i64) -> Option<ArrayString<33>>
     ensures some { IsSome result ↔ IsTimestamp unit timestamp }
     ensures word { IfSome result (λ word. IsTimestampWord unit is_zoned word.bytes timestamp) }
+    ensures text { IfSome result (λ word. IsTimestampText unit is_zoned word.bytes timestamp) }
 {
     let moment = timestamp as i128 * unit.nanoseconds() as i128;
     match DateTime::from_nanosecond(moment) {
@@ -90,7 +93,7 @@ pub fn word_of_timestamp(unit: TimeUnit, is_zoned: bool, timestamp: i64) -> Opti
 
 /// The word of a date and a time, with `Z` behind it if the type has a zone.
 fn word_of_civil(is_zoned: bool, civil: DateTime) -> ArrayString<33>
-    ensures { moment_written is_zoned result.bytes ≡ Some (civil_nanos civil) }
+    ensures { result.bytes ≡ civil_text is_zoned civil }
 {
     let mut word = ArrayString::new();
     word.push_str(DateTimePrinter::new().datetime_text(civil).as_str());

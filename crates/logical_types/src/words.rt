@@ -2,6 +2,7 @@
 //! Words of values of logical types.
 
 ghost use Rattle.std.specs.Prelude.{ℤ, IfNone, IfOk, IfSome, MatchOption, string_bytes};
+ghost use Rattle.logical_types.specs.Printed.{IsPrinted};
 ghost use Rattle.logical_types.specs.Words.{IsStorageOf, Writes};
 ghost use Rattle.logical_types.specs.declared.logical.LogicalType.TheVariants as LogicalType;
 
@@ -49,15 +50,18 @@ pub fn storage_of_word(logical: LogicalType, word: &[u8]) -> Option<i128>
     }
 }
 
-/// A word of the value with this storage, which is read as that value. None if it is no storage of the
-/// type. `OutOfMemory` is the only refusal.
+/// The word of the value with this storage, which is read as that value: a decimal has each of its places,
+/// and a zoned timestamp ends in `Z`. None if it is no storage of the type. `OutOfMemory` is the only
+/// refusal.
 pub fn word_of_storage(
     alloc: Global,
     logical: LogicalType,
     storage: i128,
 ) -> Result<Option<String>, AllocError>
-    ensures { IfOk result (λ word. MatchOption word (¬ (IsStorageOf logical storage))
+    ensures reads { IfOk result (λ word. MatchOption word (¬ (IsStorageOf logical storage))
         (λ text. Writes logical (string_bytes text) storage)) }
+    ensures printed { IfOk result (λ word. IfSome word
+        (λ text. IsPrinted logical (string_bytes text) storage)) }
 {
     match logical {
         LogicalType::Float64 => f64_word(alloc, storage),
@@ -72,8 +76,10 @@ pub fn word_of_storage(
 }
 
 fn f64_word(alloc: Global, storage: i128) -> Result<Option<String>, AllocError>
-    ensures { IfOk result (λ word. MatchOption word (¬ (IsStorageOf LogicalType.Float64 storage))
+    ensures reads { IfOk result (λ word. MatchOption word (¬ (IsStorageOf LogicalType.Float64 storage))
         (λ text. Writes LogicalType.Float64 (string_bytes text) storage)) }
+    ensures printed { IfOk result (λ word. IfSome word
+        (λ text. IsPrinted LogicalType.Float64 (string_bytes text) storage)) }
 {
     let Ok(storage) = i64::try_from(storage) else {
         return Ok(None);
@@ -87,8 +93,10 @@ fn f64_word(alloc: Global, storage: i128) -> Result<Option<String>, AllocError>
 }
 
 fn f32_word(alloc: Global, storage: i128) -> Result<Option<String>, AllocError>
-    ensures { IfOk result (λ word. MatchOption word (¬ (IsStorageOf LogicalType.Float32 storage))
+    ensures reads { IfOk result (λ word. MatchOption word (¬ (IsStorageOf LogicalType.Float32 storage))
         (λ text. Writes LogicalType.Float32 (string_bytes text) storage)) }
+    ensures printed { IfOk result (λ word. IfSome word
+        (λ text. IsPrinted LogicalType.Float32 (string_bytes text) storage)) }
 {
     let Ok(storage) = i32::try_from(storage) else {
         return Ok(None);
@@ -106,8 +114,10 @@ fn decimal_word(
     decimal: DecimalType,
     storage: i128,
 ) -> Result<Option<String>, AllocError>
-    ensures { IfOk result (λ word. MatchOption word (¬ (IsStorageOf (LogicalType.Decimal decimal) storage))
+    ensures reads { IfOk result (λ word. MatchOption word (¬ (IsStorageOf (LogicalType.Decimal decimal) storage))
         (λ text. Writes (LogicalType.Decimal decimal) (string_bytes text) storage)) }
+    ensures printed { IfOk result (λ word. IfSome word
+        (λ text. IsPrinted (LogicalType.Decimal decimal) (string_bytes text) storage)) }
 {
     if storage.unsigned_abs() >= decimal.limit() {
         return Ok(None);
@@ -117,8 +127,10 @@ fn decimal_word(
 }
 
 fn date_word(alloc: Global, storage: i128) -> Result<Option<String>, AllocError>
-    ensures { IfOk result (λ word. MatchOption word (¬ (IsStorageOf LogicalType.Date storage))
+    ensures reads { IfOk result (λ word. MatchOption word (¬ (IsStorageOf LogicalType.Date storage))
         (λ text. Writes LogicalType.Date (string_bytes text) storage)) }
+    ensures printed { IfOk result (λ word. IfSome word
+        (λ text. IsPrinted LogicalType.Date (string_bytes text) storage)) }
 {
     let Ok(day) = i32::try_from(storage) else {
         return Ok(None);
@@ -133,8 +145,10 @@ fn date_word(alloc: Global, storage: i128) -> Result<Option<String>, AllocError>
 }
 
 fn time_word(alloc: Global, unit: TimeUnit, storage: i128) -> Result<Option<String>, AllocError>
-    ensures { IfOk result (λ word. MatchOption word (¬ (IsStorageOf (LogicalType.Time unit) storage))
+    ensures reads { IfOk result (λ word. MatchOption word (¬ (IsStorageOf (LogicalType.Time unit) storage))
         (λ text. Writes (LogicalType.Time unit) (string_bytes text) storage)) }
+    ensures printed { IfOk result (λ word. IfSome word
+        (λ text. IsPrinted (LogicalType.Time unit) (string_bytes text) storage)) }
 {
     let Ok(time) = i64::try_from(storage) else {
         return Ok(None);
@@ -154,8 +168,11 @@ fn timestamp_word(
     is_zoned: bool,
     storage: i128,
 ) -> Result<Option<String>, AllocError>
-    ensures { IfOk result (λ word. MatchOption word (¬ (IsStorageOf (LogicalType.Timestamp unit is_zoned) storage))
+    ensures reads { IfOk result (λ word. MatchOption word
+        (¬ (IsStorageOf (LogicalType.Timestamp unit is_zoned) storage))
         (λ text. Writes (LogicalType.Timestamp unit is_zoned) (string_bytes text) storage)) }
+    ensures printed { IfOk result (λ word. IfSome word
+        (λ text. IsPrinted (LogicalType.Timestamp unit is_zoned) (string_bytes text) storage)) }
 {
     let Ok(timestamp) = i64::try_from(storage) else {
         return Ok(None);

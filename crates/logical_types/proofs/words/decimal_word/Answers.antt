@@ -5,8 +5,8 @@ use Rattle.logical_types.specs.Decimals.{decimal_text, decimal_value}
 use Rattle.logical_types.proofs.DecimalsBack.{limit_small, read_back}
 use Rattle.logical_types.proofs.words.decimal_word.Goals as goal
 
-pub returns : goal.returns
-returns c =
+pub returns-clause-reads : goal.returns-clause-reads
+returns-clause-reads c =
     let e : to_z w128 (of_z w128 c.args.storage) ≡ c.args.storage = omega (arith, ints) in
     let limit = 10 ^ c.args.decimal.precision in
     let scale = c.args.decimal.scale in
@@ -16,3 +16,8 @@ returns c =
     let most = limit_small c.args.decimal.precision c.args.decimal.small in
     let small : unsigned_abs c.args.storage < 10 ^ 64 = omega (arith, below, most) in
     ap (decimal_value limit scale) text ∙ read_back limit scale c.args.storage below small
+
+pub returns-clause-printed : goal.returns-clause-printed
+returns-clause-printed c =
+    let e : to_z w128 (of_z w128 c.args.storage) ≡ c.args.storage = omega (arith, ints) in
+    c.in_ok-text.ensures ∙ ap (decimal_text c.args.decimal.scale) e
