@@ -1,11 +1,11 @@
 -- Offsets as they lie in a buffer, and as a list of items.
-use Rattle.std.proofs.Common.{◌≡◌, ◌≢◌, ◌∙◌, IsUtf8, ℕ, ◌+◌, ◌*◌, ◌/◌, ◌<◌, ◌≤◌, Bool, true, false, MatchBool, ◌⊎◌, inl, inr, zero, suc, ◌-◌, add-zero, ap, arith, below_more, drop, length, slice_index, subst, slice_index_or, slice_range, sym, List, []}
-use Rattle.std.proofs.lemmas.List.{get_or-drop, get_or-take, get_or_past, length-take}
+use Rattle.std.proofs.Common.{◌≡◌, ◌≢◌, ◌∙◌, IsUtf8, ℕ, ◌+◌, ◌*◌, ◌/◌, ◌<◌, ◌≤◌, Bool, true, false, MatchBool, ◌⊎◌, inl, inr, zero, suc, ◌-◌, add-zero, ap, arith, below_more, drop, length, slice_index, subst, slice_index_or, slice_range, sym, take, List, []}
+use Rattle.std.proofs.lemmas.List.{drop-drop, drop-take, get_or-drop, get_or-take, get_or_past, length-drop, length-take, take-take}
 use Rattle.std.proofs.lemmas.Nat.{le-div}
-use Rattle.std.proofs.lemmas.Str.{IsUtf8-from_ascii}
+use Rattle.std.proofs.lemmas.Str.{IsUtf8-between, IsUtf8-from_ascii}
 use Rattle.std.specs.Bool.{OnTrue}
 use Rattle.std.specs.Simd.{first_chunks}
-use Rattle.std.specs.Str.{IsAscii}
+use Rattle.std.specs.Str.{IsAscii, IsCharBoundary}
 use Rattle.arrow_columns.specs.Columns.{HasOffsets, end_of}
 use Rattle.arrow_columns.specs.Integers.{item_at}
 use Rattle.arrow_columns.specs.Offsets.{AreRows, GoUp, IsRow, bytes_between, bytes_of_offset, offset_at, offset_of}
@@ -114,3 +114,56 @@ ascii_rows true R width bytes f from end begin stop h r p q = λ k l g.
     IsUtf8-from_ascii (bytes_between bytes f k)
     (part_ascii bytes begin stop (f k) (f (k + 1)) (omega (arith, p, rises_to width bytes f from end from k r (omega arith) g (omega arith))) (r k l g).0 (omega (arith, q, rises_to width bytes f from end (k + 1) end r (omega arith) (omega arith) (omega arith))) h)
 ascii_rows false R width bytes f from end begin stop h r p q = tt
+
+-- a part of a text between two characters is one
+
+part_of_part : (xs : List ℕ) (begin stop p q : ℕ) → begin ≤ p → p ≤ q → q ≤ stop → take (q - begin - (p - begin)) (drop (p - begin) (slice_range xs begin stop)) ≡ slice_range xs p q
+part_of_part xs begin stop p q l m n =
+    let front : p - begin + (stop - p) ≡ stop - begin = omega arith in
+    let size : q - begin - (p - begin) ≡ q - p = omega arith in
+    let start : begin + (p - begin) ≡ p = omega arith in
+    ap (λ k. take (q - begin - (p - begin)) (drop (p - begin) (take k (drop begin xs)))) (sym front)
+    ∙ ap (take (q - begin - (p - begin))) (drop-take (p - begin) (stop - p) (drop begin xs) ∙ ap (take (stop - p)) (drop-drop (p - begin) begin xs ∙ ap (λ k. drop k xs) start))
+    ∙ ap (λ k. take k (take (stop - p) (drop p xs))) size
+    ∙ take-take (q - p) (stop - p) (drop p xs) (omega arith)
+
+part_length : (xs : List ℕ) (begin stop : ℕ) → stop ≤ length xs → length (slice_range xs begin stop) ≡ stop - begin
+part_length xs begin stop h = let l : length xs - begin ≡ length (drop begin xs) = sym (length-drop begin xs) in omega (arith, l, h, length-take (stop - begin) (drop begin xs))
+
+boundary_in : (xs : List ℕ) (begin stop p : ℕ) → begin ≤ p → p ≤ stop → stop ≤ length xs → IsCharBoundary xs p → IsCharBoundary (slice_range xs begin stop) (p - begin)
+boundary_in xs begin stop p l m n h =
+    let size = part_length xs begin stop n in
+    let place : begin + (p - begin) ≡ p = omega arith in (
+      omega (arith, size, l, m),
+      λ below high.
+          let same : slice_index (slice_range xs begin stop) (p - begin) ≡ slice_index xs p = at_part xs begin stop (p - begin) (omega (arith, below, size)) ∙ ap (slice_index xs) place in
+          omega (arith, same, h.1 (omega (arith, below, size, l, m, n)) (omega (arith, same, high))),
+    )
+
+part_utf8 : (xs : List ℕ) (begin stop p q : ℕ) → begin ≤ p → p ≤ q → q ≤ stop → stop ≤ length xs → IsUtf8 (slice_range xs begin stop) → IsCharBoundary xs p → IsCharBoundary (slice_range xs begin stop) (q - begin) → IsUtf8 (slice_range xs p q)
+part_utf8 xs begin stop p q l m n o h a b =
+    subst IsUtf8 (part_of_part xs begin stop p q l m n)
+    (IsUtf8-between (slice_range xs begin stop) (p - begin) (q - begin) h (omega arith) (boundary_in xs begin stop p l (omega arith) o a) b)
+
+-- the end of a part is one
+boundary_at_end : (xs : List ℕ) (begin stop q : ℕ) → begin ≤ stop → stop ≤ length xs → q ≡ stop → IsCharBoundary (slice_range xs begin stop) (q - begin)
+boundary_at_end xs begin stop q l n e =
+    let size = part_length xs begin stop n in
+    (omega (arith, size, e), λ below high. absurd (omega (arith, below, size, e)))
+
+last_or_not : (k end : ℕ) → k < end → (k + 1 < end) ⊎ (k + 1 ≡ end)
+last_or_not k end h = search (arith)
+
+pub utf8_rows : (width : OffsetWidth) (bytes : List ℕ) (f : ℕ → ℕ) (from end begin stop : ℕ) → IsUtf8 (slice_range bytes begin stop) → AreRows width bytes f from end → begin ≡ f from → stop ≡ f end
+    → ((k : ℕ) → k < end → from ≤ k → IsCharBoundary bytes (f k)) → (k : ℕ) → k < end → from ≤ k → IsUtf8 (bytes_between bytes f k)
+utf8_rows width bytes f from end begin stop h r p q starts = λ k l g.
+    let within : stop ≤ length bytes = omega (arith, q, ends_within width bytes f from end r (omega arith)) in
+    let low : begin ≤ f k = omega (arith, p, rises_to width bytes f from end from k r (omega arith) g (omega arith)) in
+    let high : f (k + 1) ≤ stop = omega (arith, q, rises_to width bytes f from end (k + 1) end r (omega arith) (omega arith) (omega arith)) in
+    let up : f k ≤ f (k + 1) = (r k l g).0 in
+    let next : IsCharBoundary (slice_range bytes begin stop) (f (k + 1) - begin) =
+    elim (last_or_not k end l) [
+      | inl more ↦ boundary_in bytes begin stop (f (k + 1)) (omega arith) high within (starts (k + 1) more (omega arith))
+      | inr last ↦ boundary_at_end bytes begin stop (f (k + 1)) (omega arith) within (ap f last ∙ sym q)
+    ] in
+    part_utf8 bytes begin stop (f k) (f (k + 1)) low up high within h (starts k l g) next

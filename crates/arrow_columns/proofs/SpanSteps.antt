@@ -1,5 +1,5 @@
 -- Values told apart by the numbers of their first bytes.
-use Rattle.std.proofs.Common.{◌≡◌, ◌∙◌, ◌==◌, ℕ, zero, suc, ◌+◌, ◌-◌, ◌*◌, ◌%◌, ◌^◌, ◌<◌, ◌≤◌, ◌⊎◌, ◌&&◌, inl, inr, Bool, true, false, List, [], ◌∷◌, ◌++◌, add-zero, ap, arith, drop, length, nat_cmp, Option, Some, Less, Equal, Greater, refl, slice_index, slice_range, subst, sym, take}
+use Rattle.std.proofs.Common.{◌≡◌, ◌∙◌, ◌==◌, ℕ, zero, suc, ◌+◌, ◌-◌, ◌*◌, ◌%◌, ◌^◌, ◌<◌, ◌≤◌, ◌⊎◌, ◌&&◌, inl, inr, Bool, true, false, List, [], ◌∷◌, ◌++◌, add-zero, ap, arith, drop, length, min, nat_cmp, Option, Some, Less, Equal, Greater, refl, slice_index, slice_range, subst, sym, take}
 use Rattle.std.proofs.Math.Dec.{ltb}
 use Rattle.std.proofs.Math.Nat.{mul-le-mul_right}
 use Rattle.std.proofs.Math.Seq.{take-add}
@@ -127,12 +127,13 @@ low_told s v w other x y b e p q = both_true (ltb v w) other (NotAbove x y) (bel
 pub high_told : (s v w : ℕ) (other : Bool) (x y : List ℕ) → AreBytes y → take s x ≡ take s y → v ≡ beginning 8 (drop s x) → w ≡ beginning 8 (drop s y) → OnTrue (other && ltb v w) (NotAbove x y)
 high_told s v w other x y b e p q = last_true other (ltb v w) (NotAbove x y) (below_told s v w x y b e p q)
 
--- equal numbers are of equal bytes
-same_bytes : (n : ℕ) (xs ys : List ℕ) → AreBytes xs → AreBytes ys → n ≤ length xs → n ≤ length ys → beginning n xs ≡ beginning n ys → take n xs ≡ take n ys
-same_bytes zero xs ys b c l m e = refl
-same_bytes (suc n) [] ys b c l m e = absurd (omega arith)
-same_bytes (suc n) (x ∷ xs) [] b c l m e = absurd (omega arith)
-same_bytes (suc n) (x ∷ xs) (y ∷ ys) b c l m e =
+-- equal numbers are of equal bytes, if both have as many
+pub same_bytes : (n : ℕ) (xs ys : List ℕ) → AreBytes xs → AreBytes ys → min n (length xs) ≡ min n (length ys) → beginning n xs ≡ beginning n ys → take n xs ≡ take n ys
+same_bytes zero xs ys b c l e = refl
+same_bytes (suc n) [] [] b c l e = refl
+same_bytes (suc n) [] (y ∷ ys) b c l e = absurd (omega (arith, l))
+same_bytes (suc n) (x ∷ xs) [] b c l e = absurd (omega (arith, l))
+same_bytes (suc n) (x ∷ xs) (y ∷ ys) b c l e =
     elim (compared x y) [
       | inl g ↦
           let more : x * 256 ^ n + beginning n xs < y * 256 ^ n + beginning n ys = above (256 ^ n) y x (beginning n ys) (beginning n xs) (small n xs (bytes_rest x xs b)) g in
@@ -141,7 +142,7 @@ same_bytes (suc n) (x ∷ xs) (y ∷ ys) b c l m e =
           elim q [
             | inl f ↦
                 let same : x * 256 ^ n ≡ y * 256 ^ n = ap (λ k. k * 256 ^ n) f in
-                let rest : take n xs ≡ take n ys = same_bytes n xs ys (bytes_rest x xs b) (bytes_rest y ys c) (omega arith) (omega arith) (omega (arith, same, e)) in
+                let rest : take n xs ≡ take n ys = same_bytes n xs ys (bytes_rest x xs b) (bytes_rest y ys c) (omega (arith, l)) (omega (arith, same, e)) in
                 ap (λ z. z ∷ take n xs) f ∙ ap (λ zs. y ∷ zs) rest
             | inr g ↦
                 let more : y * 256 ^ n + beginning n ys < x * 256 ^ n + beginning n xs = above (256 ^ n) x y (beginning n xs) (beginning n ys) (small n ys (bytes_rest y ys c)) g in
@@ -150,7 +151,7 @@ same_bytes (suc n) (x ∷ xs) (y ∷ ys) b c l m e =
     ]
 
 pub words_same : (b : Bool) (x y : ℕ) (xs ys : List ℕ) → b ≡ (x == y) → x ≡ beginning 8 xs → y ≡ beginning 8 ys → AreBytes xs → AreBytes ys → 8 ≤ length xs → 8 ≤ length ys → OnTrue b (take 8 xs ≡ take 8 ys)
-words_same true x y xs ys e p q b c l m = same_bytes 8 xs ys b c l m (sym p ∙ eqb-true x y (sym e) ∙ q)
+words_same true x y xs ys e p q b c l m = same_bytes 8 xs ys b c (omega (arith, l, m)) (sym p ∙ eqb-true x y (sym e) ∙ q)
 words_same false x y xs ys e p q b c l m = tt
 
 pub on_true : (b : Bool) (P : Type 0) → OnTrue b P → b ≡ true → P

@@ -3,11 +3,12 @@
 ghost use Rattle.std.specs.Prelude.{[], ◌≡◌, ℕ, ◌+◌, ◌<◌, ◌≤◌, IsUtf8, List, MatchBool, MatchOption, length};
 ghost use Rattle.std.specs.Prelude.{slice_index_or, true};
 ghost use Rattle.std.specs.Bool.{OnTrue};
+ghost use Rattle.std.specs.Str.{IsCharBoundary};
 ghost use Rattle.arrow_columns.specs.Words.{AreRows, GoUp, HasBits, IsRow, bytes_between, is_valid, offset_of};
 
 use crate::bitmaps::is_row_valid;
 use crate::offsets::Offset;
-use std::str;
+use simdutf8::is_utf8;
 
 /// The first row whose offsets go down, or past the end of the bytes.
 pub fn first_bad<const N: usize, T: Offset<N>>(
@@ -121,7 +122,7 @@ pub fn first_not_utf8<const N: usize, T: Offset<N>>(
         × ((j : ℕ) → j < k → from ≤ j → is_valid validity.now j ≡ true → IsUtf8 (value j))
         × (is_valid validity.now k ≡ true) × ¬ (IsUtf8 (value k))) }
 {
-    if are_ascii::<N, T>(bytes, offsets, from, end) {
+    if are_utf8::<N, T>(bytes, offsets, from, end) {
         return None;
     }
     for i in from..end {
@@ -132,9 +133,9 @@ pub fn first_not_utf8<const N: usize, T: Offset<N>>(
     None
 }
 
-/// Whether no byte of the rows is above 127. Each row is UTF-8 then, and many bytes are tested at
-/// once.
-fn are_ascii<const N: usize, T: Offset<N>>(
+/// Whether the bytes of all rows are UTF-8 together, and no row begins within a character. Each row is
+/// UTF-8 then, and many bytes are tested at once.
+fn are_utf8<const N: usize, T: Offset<N>>(
     bytes: &[u8],
     offsets: &[[u8; N]],
     from: usize,
@@ -154,12 +155,39 @@ fn are_ascii<const N: usize, T: Offset<N>>(
     let begin = read_offset::<N, T>(offsets, from);
     let stop = read_offset::<N, T>(offsets, end);
     let part = &bytes[begin..stop];
-    part.is_ascii()
+    if part.is_ascii() {
+        return true;
+    }
+    is_utf8(part) && begin_characters::<N, T>(bytes, offsets, from, end)
 }
 
-/// Whether these bytes are UTF-8.
-fn is_utf8(bytes: &[u8]) -> bool
-    ensures { MatchBool result (IsUtf8 bytes.now) (¬ (IsUtf8 bytes.now)) }
+/// Whether a character of a text begins where each row does, unless the text ends there.
+fn begin_characters<const N: usize, T: Offset<N>>(
+    text: &[u8],
+    offsets: &[[u8; N]],
+    from: usize,
+    end: usize,
+) -> bool
+    requires narrow { N ≤ 8 }
+    requires range { from ≤ end }
+    requires offsets { end < length offsets.now }
+    requires rows { AreRows T.width text.now (λ i. offset_of T.width (slice_index_or offsets.now i [])) from end }
+    ensures { let offset : ℕ → ℕ = λ i. offset_of T.width (slice_index_or offsets.now i []) in
+        OnTrue result ((k : ℕ) → k < end → from ≤ k → IsCharBoundary text.now (offset k)) }
 {
-    str::from_utf8(bytes).is_ok()
+    for i in from..end {
+        if is_inside(text, read_offset::<N, T>(offsets, i)) {
+            return false;
+        }
+    }
+    true
+}
+
+/// Whether the byte at a place is not the first of its character.
+#[inline(always)]
+fn is_inside(text: &[u8], place: usize) -> bool
+    requires { place ≤ length text.now }
+    ensures { MatchBool result (¬ (IsCharBoundary text.now place)) (IsCharBoundary text.now place) }
+{
+    place < text.len() && matches!(text[place], 128..192)
 }

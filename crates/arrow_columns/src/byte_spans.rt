@@ -281,7 +281,7 @@ fn word_after(words: usize, value: &[u8]) -> u64
 
 /// The number of the first eight bytes from `begin` to `stop`, with zeros after the last one.
 #[inline(always)]
-fn word_between(bytes: &[u8], begin: usize, stop: usize) -> u64
+pub fn word_between(bytes: &[u8], begin: usize, stop: usize) -> u64
     requires order { begin ≤ stop }
     requires within { stop ≤ length bytes.now }
     ensures { result ≡ beginning 8 (slice_range bytes.now begin stop) }

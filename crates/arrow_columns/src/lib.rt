@@ -26,7 +26,8 @@ mod statistics;
 mod tested_rows;
 
 pub use bitmaps::{bitmap_length, put_bit};
-pub use byte_spans::{ByteSpan, items_are_bytes};
+pub use byte_items::read_offset;
+pub use byte_spans::{ByteSpan, items_are_bytes, word_between};
 pub use casts::CastError;
 pub use columns::{Column, row_count_of};
 pub use errors::{Buffer, ColumnError};
@@ -34,6 +35,7 @@ pub use formats::{DecimalWidth, Format};
 pub use items::{Item, Storage32, Storage64};
 pub use kinds::{IntegerKind, ItemKind, Kind};
 pub use offset_width::OffsetWidth;
+pub use offsets::Offset;
 pub use statistics::{
     BooleanStatistics, ByteExtremes, ByteStatistics, IntegerExtremes, IntegerStatistics,
 };

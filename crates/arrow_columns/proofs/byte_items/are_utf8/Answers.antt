@@ -1,7 +1,9 @@
-use Rattle.std.proofs.Common.{[], arith, ℕ, slice_index_or}
-use Rattle.arrow_columns.specs.Offsets.{offset_of}
-use Rattle.arrow_columns.proofs.OffsetItems.{ascii_rows, ends_within, rises_to}
-use Rattle.arrow_columns.proofs.byte_items.are_ascii.Goals as goal
+use Rattle.std.proofs.Common.{[], ◌<◌, ◌≤◌, IsUtf8, arith, ℕ, slice_index_or}
+use Rattle.std.specs.Str.{IsCharBoundary}
+use Rattle.arrow_columns.specs.Offsets.{bytes_between, offset_of}
+use Rattle.arrow_columns.proofs.OffsetItems.{ascii_rows, ends_within, rises_to, utf8_rows, weaker}
+use Rattle.arrow_columns.proofs.SpanSteps.{on_true}
+use Rattle.arrow_columns.proofs.byte_items.are_utf8.Goals as goal
 
 pub returns-then-from-end : goal.returns-then-from-end
 returns-then-from-end g c = λ k l f. absurd (omega arith)
@@ -42,8 +44,17 @@ slice_bounds-part-end g c =
       ends_within W c.args.bytes.now O c.args.from c.args.end c.requires.rows (omega arith),
     )
 
-pub returns : goal.returns
-returns g c =
+pub returns-then-is_ascii : goal.returns-then-is_ascii
+returns-then-is_ascii g c =
     let W = g.T.Offset.width in
     let O : ℕ → ℕ = λ i. offset_of W (slice_index_or c.args.offsets.now i []) in
-    ascii_rows c.is_ascii.result _ W c.args.bytes.now O c.args.from c.args.end c.read_offset-begin.result c.read_offset-stop.result c.is_ascii.ensures.cases c.requires.rows c.read_offset-begin.ensures c.read_offset-stop.ensures
+    on_true c.is_ascii.result ((k : ℕ) → k < c.args.end → c.args.from ≤ k → IsUtf8 (bytes_between c.args.bytes.now O k))
+    (ascii_rows c.is_ascii.result _ W c.args.bytes.now O c.args.from c.args.end c.read_offset-begin.result c.read_offset-stop.result c.is_ascii.ensures.cases c.requires.rows c.read_offset-begin.ensures c.read_offset-stop.ensures) c.if-is_ascii.true
+
+pub returns-then-is_utf8 : goal.returns-then-is_utf8
+returns-then-is_utf8 g c =
+    let W = g.T.Offset.width in
+    let bytes = c.args.bytes.now in
+    let O : ℕ → ℕ = λ i. offset_of W (slice_index_or c.args.offsets.now i []) in
+    weaker c.begin_characters.result ((k : ℕ) → k < c.args.end → c.args.from ≤ k → IsCharBoundary bytes (O k)) ((k : ℕ) → k < c.args.end → c.args.from ≤ k → IsUtf8 (bytes_between bytes O k)) c.begin_characters.ensures
+    (utf8_rows W bytes O c.args.from c.args.end c.read_offset-begin.result c.read_offset-stop.result (c.is_utf8.ensures.0 c.if-is_utf8.true) c.requires.rows c.read_offset-begin.ensures c.read_offset-stop.ensures)
