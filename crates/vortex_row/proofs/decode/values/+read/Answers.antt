@@ -242,4 +242,3 @@ push_value-returns-in_ok-push-in-Ok t c = (Present c.in-Ok.value, c.in_ok-push-i
 
 pub push_next-returns-in_err-push_leaf : goal.push_next-returns-in_err-push_leaf
 push_next-returns-in_err-push_leaf t c = puts-passed _ _ _ _ _ _ _ c.from_residual.ensures c.in_err-push_leaf.ensures.refused
-
