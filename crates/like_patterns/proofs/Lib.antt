@@ -11,3 +11,5 @@ mod Escaping
 mod Comparing
 mod Beginnings
 mod PatternLaws
+mod Copying
+mod Counting

@@ -34,6 +34,17 @@ piece_parts case pieces.AnyString = any_string ∷ []
 abbrev pub parts_of : Case → List Piece → List Part
 parts_of case ps = flat_map (piece_parts case) ps
 
+-- what a piece is, but for what was made ready to search for it
+pub data Shape : Type 0 where
+  text_shape : List ℕ → Shape
+  character_shape : Shape
+  string_shape : Shape
+
+abbrev pub piece_shape : Piece → Shape
+piece_shape (pieces.Fixed (fixed.Text text)) = text_shape (string_bytes text.string)
+piece_shape (pieces.Fixed fixed.AnyCharacter) = character_shape
+piece_shape pieces.AnyString = string_shape
+
 -- whether the last piece is a text, or if there is none, what stands before
 abbrev pub ends_in_text : Bool → List Piece → Bool
 ends_in_text before [] = before

@@ -1,5 +1,5 @@
 -- Patterns as they are written: `%` and `_`, and before a character that stands for itself perhaps the escape.
-use Rattle.std.specs.Prelude.{◌≡◌, ℕ, Bool, true, false, ◌==◌, ◌||◌, List, [], ◌∷◌, drop, Option, None, Some, if◌then◌else◌}
+use Rattle.std.specs.Prelude.{◌≡◌, ℕ, Bool, true, false, ◌==◌, ◌||◌, List, [], ◌∷◌, ◌++◌, drop, Option, None, Some, if◌then◌else◌}
 use Rattle.std.specs.Option.{option_map}
 use Rattle.std.specs.List.{flat_map}
 use Rattle.std.specs.Char.{encode_utf8}
@@ -47,6 +47,14 @@ part_text any_string = 37 ∷ []
 
 abbrev pub pattern_text : List Part → List ℕ
 pattern_text parts = flat_map part_text parts
+
+-- a character as it is written, twice if it is the quote
+abbrev pub quotable : Option ℕ → ℕ → List ℕ
+quotable quote c = if is_escape quote c then encode_utf8 c ++ encode_utf8 c else encode_utf8 c
+
+-- characters as they are written, each quote twice, if there is one
+abbrev pub quotable_text : Option ℕ → List ℕ → List ℕ
+quotable_text quote cs = flat_map (quotable quote) cs
 
 -- whether some character of the pattern that stands for itself is special
 abbrev pub has_special : List Part → Bool

@@ -1,7 +1,8 @@
 // SPDX-License-Identifier: Apache-2.0
 //! Patterns: read, compared with strings, looked into, and written.
 
-ghost use Rattle.std.specs.Prelude.{◌≡◌, ◌++◌, ◌∷◌, ◌↔◌, [], ℕ, List, IfOk, IsTrue, MatchOption, Some, false, true};
+ghost use Rattle.std.specs.Prelude.{◌≡◌, ◌++◌, ◌∷◌, ◌↔◌, ◌-◌, ◌^◌, [], ℕ, List, IfOk, IsTrue, MatchOption, Some};
+ghost use Rattle.std.specs.Prelude.{false, length, map, min, true};
 ghost use Rattle.std.specs.Fmt.{WritesOnOk};
 ghost use Rattle.std.specs.List.{list_any};
 ghost use Rattle.std.specs.Str.{IsUtf8, chars, encode_utf8_all};
@@ -9,17 +10,17 @@ ghost use Rattle.like_patterns.specs.declared.case.Case.TheVariants.{Sensitive};
 ghost use Rattle.like_patterns.specs.declared.error.PatternError.TheVariants.{EscapeAtEnd};
 ghost use Rattle.like_patterns.specs.declared.pieces.Piece.TheVariants.{AnyString};
 ghost use Rattle.like_patterns.specs.Patterns.{Part, any_string, is_like, leading, literal};
-ghost use Rattle.like_patterns.specs.Pieces.{are_in_runs, literals, parts_of, piece_parts};
-ghost use Rattle.like_patterns.specs.Texts.{EndsInEscape, has_special, is_special, part_text, pattern_of};
-ghost use Rattle.like_patterns.specs.Texts.{pattern_text};
+ghost use Rattle.like_patterns.specs.Pieces.{are_in_runs, literals, parts_of, piece_parts, piece_shape};
+ghost use Rattle.like_patterns.specs.Texts.{EndsInEscape, has_special, is_escape, is_special, part_text, pattern_of};
+ghost use Rattle.like_patterns.specs.Texts.{pattern_text, quotable, quotable_text};
 
 use crate::case::Case;
 use crate::error::PatternError;
 use crate::matching::is_match;
 use crate::pieces::{Fixed, Piece};
 use crate::reading::read;
-use std::alloc::Global;
-use std::fmt::{self, Display, Formatter, Write};
+use std::alloc::{AllocError, Global};
+use std::fmt::{self, Debug, Display, Formatter, Write};
 use std::marker::Model;
 
 /// A pattern of `like`.
@@ -106,6 +107,70 @@ impl Pattern {
         }
         false
     }
+
+    /// How many characters stand for themselves in the pattern, with each `_` and `%`, as far as a `usize`
+    /// counts.
+    pub fn count_parts(&self) -> usize
+        ensures { result ≡ min (length self.now) (2 ^ 64 - 1) }
+    {
+        count_parts(&self.pieces)
+    }
+
+    /// Writes the pattern as its `Display` does, but each quote in it twice.
+    pub fn write_doubled<W: Write>(&self, quote: char, f: &mut Formatter<W>) -> fmt::Result
+        ensures { WritesOnOk W.write_str_gives f.old result
+            (quotable_text (Some quote) (pattern_text self.now)) f.new }
+    {
+        write_pieces(&self.pieces, Some(quote), f)
+    }
+
+    /// A copy with memory of its own.
+    pub fn clone(&self, alloc: Global) -> Result<Pattern, AllocError>
+        ensures { IfOk result (λ copy. copy ≡ self.now) }
+    {
+        let pieces = copy_pieces(alloc, &self.pieces)?;
+        Ok(Pattern { pieces })
+    }
+}
+
+/// How many parts the pieces are, as far as a `usize` counts.
+fn count_parts(pieces: &[Piece]) -> usize
+    ensures { result ≡ min (length (parts_of Sensitive pieces.now)) (2 ^ 64 - 1) }
+{
+    let mut count = 0_usize;
+    for piece in pieces {
+        count = count.saturating_add(count_in(piece));
+    }
+    count
+}
+
+/// How many parts a piece is.
+fn count_in(piece: &Piece) -> usize
+    ensures { result ≡ length (piece_parts Sensitive piece.now) }
+{
+    match piece {
+        Piece::Fixed(Fixed::Text(text)) => count_characters(text.string.as_str()),
+        Piece::Fixed(Fixed::AnyCharacter) => 1,
+        Piece::AnyString => 1,
+    }
+}
+
+/// How many characters a text has.
+fn count_characters(text: &str) -> usize
+    ensures { result ≡ length (literals (chars text.now)) }
+{
+    text.chars().count()
+}
+
+/// Copies of the pieces, in order.
+fn copy_pieces(alloc: Global, pieces: &[Piece]) -> Result<Vec<Piece>, AllocError>
+    ensures { IfOk result (λ copies. map piece_shape copies.items ≡ map piece_shape pieces.now) }
+{
+    let mut copies = Vec::with_capacity(alloc, pieces.len())?;
+    for piece in pieces {
+        copies.push(piece.clone(alloc)?)?;
+    }
+    Ok(copies)
 }
 
 /// The characters before the first wildcard, and the pieces behind them.
@@ -157,37 +222,81 @@ fn has_special(text: &[u8]) -> bool
     text.iter().any(|byte| matches!(*byte, b'%' | b'_' | b'\\'))
 }
 
-/// Writes a character that stands for itself, behind a `\` if it has a meaning of its own.
-fn write_literal<W: Write>(character: char, f: &mut Formatter<W>) -> fmt::Result
-    ensures { WritesOnOk W.write_str_gives f.old result (encode_utf8_all (part_text (literal character))) f.new }
+/// Whether a character is the quote, if there is one.
+fn is_quote(quote: Option<char>, character: char) -> bool
+    ensures { result ≡ is_escape quote character }
 {
-    if matches!(character, '%' | '_' | '\\') {
-        f.write_char('\\')?;
+    match quote {
+        Some(quote) => character == quote,
+        None => false,
+    }
+}
+
+/// Writes a character, twice if it is the quote.
+fn write_quotable<W: Write>(
+    character: char,
+    quote: Option<char>,
+    f: &mut Formatter<W>,
+) -> fmt::Result
+    ensures { WritesOnOk W.write_str_gives f.old result (quotable quote character) f.new }
+{
+    if is_quote(quote, character) {
+        f.write_char(character)?;
     }
     f.write_char(character)
 }
 
-/// Writes characters that stand for themselves.
-fn write_text<W: Write>(text: &str, f: &mut Formatter<W>) -> fmt::Result
+/// Writes a character that stands for itself, behind a `\` if it has a meaning of its own.
+fn write_literal<W: Write>(
+    character: char,
+    quote: Option<char>,
+    f: &mut Formatter<W>,
+) -> fmt::Result
     ensures { WritesOnOk W.write_str_gives f.old result
-        (encode_utf8_all (pattern_text (literals (chars text.now)))) f.new }
+        (quotable_text quote (part_text (literal character))) f.new }
+{
+    if matches!(character, '%' | '_' | '\\') {
+        write_quotable('\\', quote, f)?;
+    }
+    write_quotable(character, quote, f)
+}
+
+/// Writes characters that stand for themselves.
+fn write_text<W: Write>(text: &str, quote: Option<char>, f: &mut Formatter<W>) -> fmt::Result
+    ensures { WritesOnOk W.write_str_gives f.old result
+        (quotable_text quote (pattern_text (literals (chars text.now)))) f.new }
 {
     for character in text.chars() {
-        write_literal(character, f)?;
+        write_literal(character, quote, f)?;
     }
     Ok(())
 }
 
 /// Writes a piece.
-fn write_piece<W: Write>(piece: &Piece, f: &mut Formatter<W>) -> fmt::Result
+fn write_piece<W: Write>(piece: &Piece, quote: Option<char>, f: &mut Formatter<W>) -> fmt::Result
     ensures { WritesOnOk W.write_str_gives f.old result
-        (encode_utf8_all (pattern_text (piece_parts Sensitive piece.now))) f.new }
+        (quotable_text quote (pattern_text (piece_parts Sensitive piece.now))) f.new }
 {
     match piece {
-        Piece::Fixed(Fixed::Text(text)) => write_text(text.string.as_str(), f),
-        Piece::Fixed(Fixed::AnyCharacter) => f.write_char('_'),
-        Piece::AnyString => f.write_char('%'),
+        Piece::Fixed(Fixed::Text(text)) => write_text(text.string.as_str(), quote, f),
+        Piece::Fixed(Fixed::AnyCharacter) => write_quotable('_', quote, f),
+        Piece::AnyString => write_quotable('%', quote, f),
     }
+}
+
+/// Writes pieces, and each quote in them twice, if there is one.
+fn write_pieces<W: Write>(
+    pieces: &[Piece],
+    quote: Option<char>,
+    f: &mut Formatter<W>,
+) -> fmt::Result
+    ensures { WritesOnOk W.write_str_gives f.old result
+        (quotable_text quote (pattern_text (parts_of Sensitive pieces.now))) f.new }
+{
+    for piece in pieces {
+        write_piece(piece, quote, f)?;
+    }
+    Ok(())
 }
 
 /// The pattern as a text whose escape is `\`.
@@ -195,9 +304,13 @@ impl Display for Pattern {
     ghost output = { λ pattern. Some (encode_utf8_all (pattern_text pattern)) };
 
     fn fmt<W: Write>(&self, f: &mut Formatter<W>) -> fmt::Result {
-        for piece in &self.pieces {
-            write_piece(piece, f)?;
-        }
-        Ok(())
+        write_pieces(&self.pieces, None, f)
+    }
+}
+
+/// As `Display` writes it.
+impl Debug for Pattern {
+    fn fmt<W: Write>(&self, f: &mut Formatter<W>) -> fmt::Result {
+        Display::fmt(self, f)
     }
 }

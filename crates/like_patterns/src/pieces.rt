@@ -1,14 +1,15 @@
 // SPDX-License-Identifier: Apache-2.0
 //! The pieces of a pattern.
 
-ghost use Rattle.std.specs.Prelude.{IfSome, MatchOption};
+ghost use Rattle.std.specs.Prelude.{◌≡◌, IfOk, IfSome, MatchOption};
 ghost use Rattle.std.specs.Str.{IsUtf8};
 ghost use Rattle.like_patterns.specs.Characters.{compared};
-ghost use Rattle.like_patterns.specs.Pieces.{FailsAtEnd, FailsAtFront, StripsEnd, StripsFront, fixed_parts};
+ghost use Rattle.like_patterns.specs.Pieces.{FailsAtEnd, FailsAtFront, StripsEnd, StripsFront, fixed_parts, piece_shape};
 
 use crate::case::Case;
 use crate::characters::{after_character, before_character};
 use crate::text::Text;
+use std::alloc::{AllocError, Global};
 
 /// What stands for a number of characters that the pattern fixes.
 #[derive(Drop)]
@@ -54,6 +55,19 @@ impl Fixed {
         match self {
             Fixed::Text(wanted) => wanted.before(case, text),
             Fixed::AnyCharacter => before_character(text),
+        }
+    }
+}
+
+impl Piece {
+    /// A copy with memory of its own.
+    pub(crate) fn clone(&self, alloc: Global) -> Result<Piece, AllocError>
+        ensures { IfOk result (λ copy. piece_shape copy ≡ piece_shape self.now) }
+    {
+        match self {
+            Piece::Fixed(Fixed::Text(text)) => Ok(Piece::Fixed(Fixed::Text(text.clone(alloc)?))),
+            Piece::Fixed(Fixed::AnyCharacter) => Ok(Piece::Fixed(Fixed::AnyCharacter)),
+            Piece::AnyString => Ok(Piece::AnyString),
         }
     }
 }

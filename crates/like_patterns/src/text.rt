@@ -30,6 +30,13 @@ impl Text {
         Ok(Text { string, finder })
     }
 
+    /// A copy with memory of its own.
+    pub(crate) fn clone(&self, alloc: Global) -> Result<Text, AllocError>
+        ensures { IfOk result (λ copy. string_bytes copy.string ≡ string_bytes self.now.string) }
+    {
+        Text::new(alloc, String::from_str(alloc, self.string.as_str())?)
+    }
+
     /// How many bytes they have.
     #[inline(always)]
     pub(crate) fn len(&self) -> usize

@@ -4,6 +4,7 @@ use Rattle.std.specs.List.{AllByRecursion, list_all, slice_get}
 use Rattle.std.specs.Option.{IsSomeAnd}
 use Rattle.std.proofs.lemmas.Bool.{false≢true}
 use Rattle.std.proofs.lemmas.Option.{none-some, same_Some}
+use Rattle.vortex_dtype.specs.Parts.{is_utf8_type}
 use Rattle.vortex_dtype.specs.TypeTree.{TypeTree, Same, utf8_type, binary_type}
 use Rattle.vortex_value.specs.Equality.{same_type}
 use Rattle.vortex_value.specs.Lemmas.EqualityLaws.{same_type-Decides}
@@ -12,8 +13,8 @@ use Rattle.vortex_cells.specs.Cells.{Cell}
 use Rattle.vortex_filter.specs.declared.error.FilterError.{FilterError}
 use Rattle.vortex_filter.specs.declared.error.FilterError.TheVariants.{OutOfMemory, NoColumn, HasVariant, TypesDiffer}
 use Rattle.vortex_filter.specs.CheckSteps.{answer_of_both, behind, checked, checked_test, holds_strings, lacks_order, suits}
-use Rattle.vortex_filter.specs.Checking.{AllFit, Demand, Fits, FitsColumns, HoldsStrings, IsOfType, IsOrderedFor, Refuses, RefusesFirst, Suits, Test, beginning, comparing, nothing, tests}
-use Rattle.vortex_filter.specs.Formula.{Formula, constant, comparison, null_test, membership, range, prefix_test, both, either, negation}
+use Rattle.vortex_filter.specs.Checking.{AllFit, Demand, Fits, FitsColumns, HoldsStrings, HoldsText, IsOfType, IsOrderedFor, Refuses, RefusesFirst, Suits, Test, beginning, comparing, matching, nothing, tests}
+use Rattle.vortex_filter.specs.Formula.{Formula, constant, comparison, null_test, membership, range, prefix_test, pattern_test, both, either, negation}
 use Rattle.vortex_cells.proofs.VariantSteps.{none-from_test, test-from_none}
 
 -- ---- counts
@@ -111,15 +112,21 @@ strings_test (utf8_type n) = ((λ e. tt), (λ e. absurd (false≢true (sym e))))
 strings_test (binary_type n) = ((λ e. tt), (λ e. absurd (false≢true (sym e))))
 strings_test _ = ((λ e. absurd (false≢true e)), (λ e h. h))
 
+pub text_test : (t : TypeTree) → (is_utf8_type t ≡ true → HoldsText t) × (is_utf8_type t ≡ false → ¬ (HoldsText t))
+text_test (utf8_type n) = ((λ e. tt), (λ e. absurd (false≢true (sym e))))
+text_test _ = ((λ e. absurd (false≢true e)), (λ e h. h))
+
 suits_test : (d : Demand Cell) (t : TypeTree) → (suits d t ≡ true → Suits IsOfType d t) × (suits d t ≡ false → ¬ (Suits IsOfType d t))
 suits_test nothing t = ((λ e. tt), (λ e. absurd (false≢true (sym e))))
 suits_test (comparing xs) t = all_test t xs
 suits_test (beginning p) t = both_true (holds_strings t) (same_type t p.typed) (HoldsStrings t) (Same t p.typed) (strings_test t) (same_test t p.typed)
+suits_test matching t = text_test t
 
 pub order_test : (d : Demand Cell) (t : TypeTree) → (lacks_order d t ≡ false → IsOrderedFor d t) × (lacks_order d t ≡ true → ¬ (IsOrderedFor d t))
 order_test nothing t = ((λ e. tt), (λ e. absurd (false≢true e)))
 order_test (comparing xs) t = (none-from_test t, (λ e h. true≢false (sym e ∙ test-from_none t h)))
 order_test (beginning p) t = (none-from_test t, (λ e h. true≢false (sym e ∙ test-from_none t h)))
+order_test matching t = (none-from_test t, (λ e h. true≢false (sym e ∙ test-from_none t h)))
 
 -- a test is refused at its column
 pub test_refused : (P : TypeTree → Cell → Type 0) (columns : List TypeTree) (k : ℕ) (d : Demand Cell) (o : Option TypeTree) (e : FilterError) → slice_get columns k ≡ o
@@ -151,6 +158,7 @@ checked_answers columns (null_test k) = test_answers columns k nothing (slice_ge
 checked_answers columns (membership k xs) = test_answers columns k (comparing xs) (slice_get columns k) refl
 checked_answers columns (range k x y) = test_answers columns k (comparing (x ∷ y ∷ [])) (slice_get columns k) refl
 checked_answers columns (prefix_test k p) = test_answers columns k (beginning p) (slice_get columns k) refl
+checked_answers columns (pattern_test k case parts) = test_answers columns k matching (slice_get columns k) refl
 checked_answers columns (both f g) = answers_both IsOfType columns (tests f) (tests g) (checked columns f) (checked columns g) (checked_answers columns f) (checked_answers columns g)
 checked_answers columns (either f g) = answers_both IsOfType columns (tests f) (tests g) (checked columns f) (checked columns g) (checked_answers columns f) (checked_answers columns g)
 checked_answers columns (negation f) = checked_answers columns f

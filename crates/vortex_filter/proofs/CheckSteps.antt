@@ -16,7 +16,7 @@ use Rattle.vortex_value.specs.declared.scalars.Scalar.{Scalar}
 use Rattle.vortex_cells.specs.Cells.{cell_of}
 use Rattle.vortex_filter.specs.Checking.{Test}
 use Rattle.vortex_filter.proofs.CheckLaws.{capped_sum}
-use Rattle.vortex_filter.proofs.Steps.{formula-And, formula-Compare, formula-Constant, formula-In, formula-IsNull, formula-Between, formula-StartsWith, formula-Not, formula-Or}
+use Rattle.vortex_filter.proofs.Steps.{formula-And, formula-Compare, formula-Constant, formula-In, formula-IsNull, formula-Between, formula-StartsWith, formula-Like, formula-Not, formula-Or}
 
 copied_type : (o : Option (Bor DType)) → option_map (λ d. type_of d.now) o ≡ option_map type_of (option_copied o)
 copied_type None = refl
@@ -36,4 +36,4 @@ all_are t (x ∷ xs) = ap (λ b. same_type t (scalar_type x) && b) (all_are t xs
 pub count_of_both : {X : Type 0} (ps qs : List (Test X)) → capped (length (ps ++ qs)) ≡ capped (capped (length ps) + capped (length qs))
 count_of_both ps qs = ap capped (length-append ps qs) ∙ sym (capped_sum (length ps) (length qs))
 
-pub ruleset counts = (count_of_both, formula-Constant, formula-Compare, formula-IsNull, formula-In, formula-Between, formula-StartsWith, formula-And, formula-Or, formula-Not)
+pub ruleset counts = (count_of_both, formula-Constant, formula-Compare, formula-IsNull, formula-In, formula-Between, formula-StartsWith, formula-Like, formula-And, formula-Or, formula-Not)

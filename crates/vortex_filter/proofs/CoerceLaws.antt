@@ -7,8 +7,12 @@ use Rattle.std.proofs.lemmas.Bool.{false≢true, not-true}
 use Rattle.std.proofs.lemmas.Bool.Decides.{nat_tests}
 use Rattle.std.proofs.lemmas.Int.{ints}
 use Rattle.std.proofs.lemmas.Option.{slice_get-map}
-use Rattle.vortex_dtype.specs.TypeTree.{TypeTree, null_type, integer_type, Same, as_nullable}
+use Rattle.like_patterns.specs.declared.case.Case.{Case}
+use Rattle.like_patterns.specs.Patterns.{Part}
+use Rattle.vortex_dtype.specs.Parts.{is_utf8_type}
+use Rattle.vortex_dtype.specs.TypeTree.{TypeTree, integer_type, utf8_type, Same, as_nullable}
 use Rattle.vortex_dtype.specs.declared.nullability.Nullability.{Nullability}
+use Rattle.vortex_dtype.specs.declared.nullability.Nullability.TheVariants.{Nullable}
 use Rattle.vortex_dtype.specs.declared.ptype.PType.{PType}
 use Rattle.vortex_dtype.specs.declared.ptype.PType.TheVariants.{U8, U16, U32, U64, I8, I16, I32, I64}
 use Rattle.vortex_pvalue.specs.Numbers.{InRange, in_range, in_signed, in_unsigned}
@@ -23,16 +27,17 @@ use Rattle.vortex_filter.specs.declared.operator.CompareOperator.{CompareOperato
 use Rattle.vortex_filter.specs.declared.operator.CompareOperator.TheVariants.{Eq, Gte, Lte}
 use Rattle.vortex_filter.specs.declared.truth.Truth.{Truth}
 use Rattle.vortex_filter.specs.declared.truth.Truth.TheVariants.{False, Unknown, True}
-use Rattle.vortex_filter.specs.Checking.{AllFit, IsOfType, Test, tests}
+use Rattle.vortex_filter.specs.Checking.{AllFit, HoldsText, IsOfType, Test, tests}
 use Rattle.vortex_filter.specs.Coercing.{by_column, coerced, coerced_cell, lacks, lacks_number, position_in, side}
-use Rattle.vortex_filter.specs.Formula.{Formula, constant, comparison, null_test, membership, range, prefix_test, both, either, negation, cell_at, compare_truth, member_truth, order_truth, truth}
+use Rattle.vortex_filter.specs.Formula.{Formula, constant, comparison, null_test, membership, range, prefix_test, pattern_test, both, either, negation, cell_at, compare_truth, member_truth, order_truth, truth}
 use Rattle.vortex_filter.specs.Operators.{holds}
+use Rattle.vortex_filter.specs.PatternTests.{match_truth, pattern_truth}
 use Rattle.vortex_filter.specs.Positions.{PositionTree, exactly, just_above, lacking, cells_of, comparison_of, for_values, member_among, member_of, range_of}
 use Rattle.vortex_filter.specs.Prefixes.{begins, begins_truth, prefix_truth}
 use Rattle.vortex_filter.specs.Rows.{IsCellOf, IsRowOf, content_truth, untyped_cell}
 use Rattle.vortex_filter.specs.Truths.{truth_and, truth_not, truth_of, truth_or}
 use Rattle.vortex_filter.proofs.CheckLaws.{fit_both}
-use Rattle.vortex_filter.proofs.PositionLaws.{CellFits, CellsFit, comparison_fits, membership_fits, nothing_fits, prefix_fits, range_fits}
+use Rattle.vortex_filter.proofs.PositionLaws.{CellFits, CellsFit, comparison_fits, membership_fits, nothing_fits, pattern_fits, prefix_fits, range_fits}
 
 -- ---- numbers that a type lacks
 
@@ -93,11 +98,12 @@ cell_is_of columns row k t r e = by_cell (slice_get row k) refl
     by_cell None h = inl refl
     by_cell (Some c) h = inr (r k t c e h)
 
-untyped_at : (row : List Cell) (k : ℕ) → cell_at (map untyped_cell row) k ≡ untyped_cell (cell_at row k)
-untyped_at row k = ap cell_or_null (slice_get-map untyped_cell row k) ∙ by_cell (slice_get row k)
+-- what is said of a cell of the row without types, if it is the same of a null past the end, whatever its type is
+untyped_at : (P : Cell → Truth) → P (cell_or_null None) ≡ P (untyped_cell (cell_or_null None)) → (row : List Cell) (k : ℕ) → P (cell_at (map untyped_cell row) k) ≡ P (untyped_cell (cell_at row k))
+untyped_at P past row k = ap (λ o. P (cell_or_null o)) (slice_get-map untyped_cell row k) ∙ by_cell (slice_get row k)
   where
-    by_cell : (o : Option Cell) → cell_or_null (option_map untyped_cell o) ≡ untyped_cell (cell_or_null o)
-    by_cell None = refl
+    by_cell : (o : Option Cell) → P (cell_or_null (option_map untyped_cell o)) ≡ P (untyped_cell (cell_or_null o))
+    by_cell None = past
     by_cell (Some c) = refl
 
 -- ---- a literal of the column's type
@@ -145,10 +151,33 @@ alike nullable t c x (inl n) = inl n
 alike nullable t c x (inr o) = inr ((same_type-Decides c.typed (coerced_cell t x).typed).1 (sym o.same ∙ coerced_same nullable t x))
 
 cast_truth : NullableIsSame → (t : TypeTree) (op : CompareOperator) (c x : Cell) → MayStandIn t c → compare_truth op c (coerced_cell t x) ≡ compare_truth op (untyped_cell c) (untyped_cell x)
-cast_truth nullable t op c x m = same_truth op c (coerced_cell t x) (alike nullable t c x m) ∙ ap (λ d. compare_truth op (untyped_cell c) (record { typed = null_type; content = d })) (coerced_content t x)
+cast_truth nullable t op c x m = same_truth op c (coerced_cell t x) (alike nullable t c x m) ∙ ap (λ d. compare_truth op (untyped_cell c) (record { typed = utf8_type Nullable; content = d })) (coerced_content t x)
 
 cast_prefix : NullableIsSame → (t : TypeTree) (c p : Cell) → MayStandIn t c → prefix_truth c (coerced_cell t p) ≡ prefix_truth (untyped_cell c) (untyped_cell p)
-cast_prefix nullable t c p m = same_prefix c (coerced_cell t p) (alike nullable t c p m) ∙ ap (λ d. prefix_truth (untyped_cell c) (record { typed = null_type; content = d })) (coerced_content t p)
+cast_prefix nullable t c p m = same_prefix c (coerced_cell t p) (alike nullable t c p m) ∙ ap (λ d. prefix_truth (untyped_cell c) (record { typed = utf8_type Nullable; content = d })) (coerced_content t p)
+
+-- ---- patterns
+
+string_type : (n : Nullability) (s : TypeTree) → Same (utf8_type n) s → is_utf8_type s ≡ true
+string_type n (utf8_type m) e = refl
+string_type n _ e = cc
+
+strings_typed : (t s : TypeTree) → HoldsText t → Same t s → is_utf8_type s ≡ true
+strings_typed (utf8_type n) s h e = string_type n s e
+strings_typed _ s h e = absurd h
+
+-- what stands in a column of strings is a null or a string
+same_match : (case : Case) (parts : List Part) (t : TypeTree) (c : Cell) → HoldsText t → MayStandIn t c → pattern_truth case parts c ≡ pattern_truth case parts (untyped_cell c)
+same_match case parts t c h (inl n) = by_test (is_utf8_type c.typed) (no_match c.content n) ∙ sym (no_match c.content n)
+  where
+    no_match : (d : Content) → is_null_content d ≡ true → match_truth case parts d ≡ Unknown
+    no_match null e = refl
+    no_match _ e = absurd (false≢true e)
+
+    by_test : (b : Bool) → match_truth case parts c.content ≡ Unknown → cond b (match_truth case parts c.content) Unknown ≡ Unknown
+    by_test true e = e
+    by_test false e = refl
+same_match case parts t c h (inr o) = ap (λ b. cond b (match_truth case parts c.content) Unknown) (strings_typed t c.typed h o.same)
 
 -- ---- a literal that the column's type lacks
 
@@ -330,6 +359,9 @@ member_value : (k : ℕ) (row : List Cell) (kept : List Cell) → is_null_cell (
 member_value k row [] n = settled_value false k row n
 member_value k row (y ∷ ys) n = refl
 
+member_past : (xs : List Cell) → member_truth (cell_or_null None) xs ≡ member_truth (untyped_cell (cell_or_null None)) xs
+member_past xs = tally_null (cell_or_null None) False xs refl ∙ sym (tally_null (untyped_cell (cell_or_null None)) False xs refl)
+
 membership_truth : NullableIsSame → (t : TypeTree) (k : ℕ) (xs : List Cell) (row : List Cell) → MayStandIn t (cell_at row k)
     → truth (member_among k (map (position_in t) xs)) row ≡ member_truth (untyped_cell (cell_at row k)) (map untyped_cell xs)
 membership_truth nullable t k [] row m = refl
@@ -363,20 +395,22 @@ coerced_truth nullable columns (constant t) row r h = refl
 coerced_truth nullable columns (comparison k op x) row r h =
     ap (λ o. truth (by_column o (comparison k op x) (λ t. comparison_of k op (position_in t x))) row) h.0.there
     ∙ comparison_truth nullable h.0.dtype op k x row (cell_is_of columns row k h.0.dtype r h.0.there)
-    ∙ sym (ap (λ c. compare_truth op c (untyped_cell x)) (untyped_at row k))
-coerced_truth nullable columns (null_test k) row r h = sym (ap (λ c. truth_of (is_null_cell c)) (untyped_at row k))
+    ∙ sym (untyped_at (λ c. compare_truth op c (untyped_cell x)) refl row k)
+coerced_truth nullable columns (null_test k) row r h = sym (untyped_at (λ c. truth_of (is_null_cell c)) refl row k)
 coerced_truth nullable columns (membership k xs) row r h =
     ap (λ o. truth (by_column o (membership k xs) (λ t. member_among k (map (position_in t) xs))) row) h.0.there
     ∙ membership_truth nullable h.0.dtype k xs row (cell_is_of columns row k h.0.dtype r h.0.there)
-    ∙ sym (ap (λ c. member_truth c (map untyped_cell xs)) (untyped_at row k))
+    ∙ sym (untyped_at (λ c. member_truth c (map untyped_cell xs)) (member_past (map untyped_cell xs)) row k)
 coerced_truth nullable columns (range k x y) row r h =
     ap (λ o. truth (by_column o (range k x y) (λ t. range_of k (position_in t x) (position_in t y))) row) h.0.there
     ∙ range_truth_is nullable h.0.dtype k x y row (cell_is_of columns row k h.0.dtype r h.0.there)
-    ∙ sym (ap (λ c. truth_and (compare_truth Gte c (untyped_cell x)) (compare_truth Lte c (untyped_cell y))) (untyped_at row k))
+    ∙ sym (untyped_at (λ c. truth_and (compare_truth Gte c (untyped_cell x)) (compare_truth Lte c (untyped_cell y))) refl row k)
 coerced_truth nullable columns (prefix_test k p) row r h =
     ap (λ o. truth (by_column o (prefix_test k p) (λ t. prefix_test k (coerced_cell t p))) row) h.0.there
     ∙ cast_prefix nullable h.0.dtype (cell_at row k) p (cell_is_of columns row k h.0.dtype r h.0.there)
-    ∙ sym (ap (λ c. prefix_truth c (untyped_cell p)) (untyped_at row k))
+    ∙ sym (untyped_at (λ c. prefix_truth c (untyped_cell p)) refl row k)
+coerced_truth nullable columns (pattern_test k case parts) row r h =
+    same_match case parts h.0.dtype (cell_at row k) h.0.suits (cell_is_of columns row k h.0.dtype r h.0.there) ∙ sym (untyped_at (pattern_truth case parts) refl row k)
 coerced_truth nullable columns (both f g) row r h =
     ap₂ truth_and (coerced_truth nullable columns f row r (fits_left AnyLiteral columns (tests f) (tests g) h)) (coerced_truth nullable columns g row r (fits_right AnyLiteral columns (tests f) (tests g) h))
 coerced_truth nullable columns (either f g) row r h =
@@ -410,6 +444,7 @@ coerced_fits nullable columns (range k x y) h =
 coerced_fits nullable columns (prefix_test k p) h =
     subst (λ o. AllFit IsOfType columns (tests (by_column o (prefix_test k p) (λ t. prefix_test k (coerced_cell t p))))) (sym h.0.there)
     (prefix_fits columns k h.0.dtype h.0.there h.0.ordered (coerced_cell h.0.dtype p) h.0.suits.0 (coerced_same nullable h.0.dtype p))
+coerced_fits nullable columns (pattern_test k case parts) h = pattern_fits columns k h.0.dtype h.0.there h.0.ordered h.0.suits
 coerced_fits nullable columns (both f g) h =
     fit_both IsOfType columns (tests (coerced columns f)) (tests (coerced columns g)) (coerced_fits nullable columns f (fits_left AnyLiteral columns (tests f) (tests g) h)) (coerced_fits nullable columns g (fits_right AnyLiteral columns (tests f) (tests g) h))
 coerced_fits nullable columns (either f g) h =

@@ -1,24 +1,28 @@
 -- Steps of coercing a filter: where memory is asked for.
 use Rattle.std.proofs.Common.{◌≡◌, ◌≢◌, inl, inr, ℕ, ◌+◌, true, false, ◌==◌, List, [], ◌∷◌, ◌++◌, length, map, Vec, Global, Box, Some, Result, Ok, Err, IfErr, MatchResult, sym, subst, ◌∙◌, true≢false, rules}
 use Rattle.std.specs.List.{AllByRecursion, slice_get}
+use Rattle.like_patterns.specs.declared.case.Case.{Case}
+use Rattle.like_patterns.specs.Patterns.{Part}
+use Rattle.vortex_dtype.specs.Parts.{is_utf8_type}
 use Rattle.vortex_dtype.specs.TypeTree.{TypeTree}
 use Rattle.vortex_value.specs.TypesWithin.{HasNoVariant}
 use Rattle.vortex_value.specs.declared.scalars.Scalar.{Scalar}
 use Rattle.vortex_filter.specs.declared.error.FilterError.{FilterError}
 use Rattle.vortex_filter.specs.declared.error.FilterError.TheVariants.{OutOfMemory, NoColumn, HasVariant, TypesDiffer}
-use Rattle.vortex_filter.specs.declared.filter.Filter.{Filter, Constant, Compare, IsNull, In, Between, StartsWith, And, Or, Not, the_lemmas}
+use Rattle.vortex_filter.specs.declared.filter.Filter.{Filter, Constant, Compare, IsNull, In, Between, StartsWith, Like, And, Or, Not, the_lemmas}
 use Rattle.vortex_filter.specs.declared.operator.CompareOperator.{CompareOperator}
 use Rattle.vortex_filter.specs.declared.truth.Truth.{Truth}
 use Rattle.vortex_filter.specs.CheckSteps.{answer_behind, behind}
-use Rattle.vortex_filter.specs.Checking.{Demand, IsOrderedFor, beginning, comparing, nothing}
+use Rattle.vortex_filter.specs.Checking.{Demand, IsOrderedFor, beginning, comparing, matching, nothing}
 use Rattle.vortex_filter.specs.CoerceMemory.{AsksAmong, AsksIn, MayRunOut, Passes, RunsOutOnly, Task, box_task, list_task, tasks_of, test_task}
 use Rattle.vortex_filter.specs.Coerces.{CoercesTest}
 use Rattle.vortex_filter.specs.Coercing.{IsCoercible, coerced_cell, position_in}
-use Rattle.vortex_filter.specs.Formula.{Formula, both, either, formula, negation, prefix_test}
+use Rattle.vortex_filter.specs.Formula.{Formula, both, either, formula, negation, pattern_test, prefix_test}
 use Rattle.vortex_filter.specs.Makes.{Makes, OfParts}
 use Rattle.vortex_filter.specs.Positions.{comparison_of, member_among, range_of}
 use Rattle.vortex_cells.specs.Cells.{cell_of}
 use Rattle.vortex_value.specs.Size.{capped}
+use Rattle.vortex_filter.proofs.CheckLaws.{text_test}
 use Rattle.vortex_filter.proofs.CoerceSteps.{NoOrdered}
 
 -- ---- the tasks of each kind of filter
@@ -40,6 +44,9 @@ tasks-Between k x y = search (rules, the_lemmas)
 
 pub tasks-StartsWith : (k : ℕ) (p : Scalar) → tasks_of (StartsWith k p) ≡ test_task k (beginning p) ∷ []
 tasks-StartsWith k p = search (rules, the_lemmas)
+
+pub tasks-Like : (k : ℕ) (parts : List Part) (case : Case) → tasks_of (Like k parts case) ≡ test_task k matching ∷ []
+tasks-Like k parts case = search (rules, the_lemmas)
 
 pub tasks-And : (f g : Box Filter Global) → tasks_of (And f g) ≡ tasks_of f.value ++ (tasks_of g.value ++ box_task ∷ [])
 tasks-And f g = search (rules, the_lemmas)
@@ -83,6 +90,10 @@ pub listed_asks : (xs : List Scalar) (r : Result Filter FilterError) → (length
 listed_asks xs (Ok g) e = tt
 listed_asks xs (Err d) e = λ is. some_listed xs e
 
+pub pattern_asks : (t : TypeTree) (r : Result Filter FilterError) → is_utf8_type t ≡ true → IfErr r (λ e. e ≡ OutOfMemory → AsksIn t matching)
+pattern_asks t (Ok g) e = tt
+pattern_asks t (Err d) e = λ is. (text_test t).0 e
+
 -- ---- a test and its column
 
 module _ (columns : List TypeTree) (k : ℕ) (t : TypeTree) (r : Result Filter FilterError) where
@@ -109,6 +120,10 @@ module _ (columns : List TypeTree) (k : ℕ) (t : TypeTree) (r : Result Filter F
   pub prefix_asked : (p : Scalar) → (slice_get columns k ≡ Some t) × HasNoVariant t → CoercesTest t (beginning p) (prefix_test k (coerced_cell t (cell_of p))) (p ∷ []) k r → IfErr r (λ e. e ≡ OutOfMemory → AsksIn t (beginning p))
       → RunsOutOnly columns (test_task k (beginning p) ∷ []) r
   prefix_asked p e h m = test_asked (prefix_test k (coerced_cell t (cell_of p))) (p ∷ []) (beginning p) r e.0 e.1 h m
+
+  pub pattern_asked : (case : Case) (parts : List Part) → (slice_get columns k ≡ Some t) × HasNoVariant t → CoercesTest t matching (pattern_test k case parts) [] k r → IfErr r (λ e. e ≡ OutOfMemory → AsksIn t matching)
+      → RunsOutOnly columns (test_task k matching ∷ []) r
+  pattern_asked case parts e h m = test_asked (pattern_test k case parts) [] matching r e.0 e.1 h m
 
 pub unordered_asked : (columns : List TypeTree) (k : ℕ) (tasks : List Task) (e : FilterError) → NoOrdered columns k e → RunsOutOnly columns tasks (Err e)
 unordered_asked columns k tasks e (inl h) = λ is. no_column k (MayRunOut columns tasks) (sym h.0 ∙ is)
@@ -170,7 +185,7 @@ module _ (columns : List TypeTree) where
         whole_asked (tasks_of f.value ++ (tasks_of g.value ++ box_task ∷ [])) (Or f g) q (tasks-Or f g)
         (joined_asked either (tasks_of f.value) (tasks_of g.value) n l r s (part_asked a f.value l da h) (part_asked b g.value r db k) (subst (OfParts (λ x y. Makes (either (formula x) (formula y)) s) (λ d. s ≡ Err d) l) e w))
 
-pub ruleset tasks = (negation_asked, tasks-Constant, tasks-Compare, tasks-IsNull, tasks-In, tasks-Between, tasks-StartsWith, tasks-And, tasks-Or, tasks-Not)
+pub ruleset tasks = (negation_asked, tasks-Constant, tasks-Compare, tasks-IsNull, tasks-In, tasks-Between, tasks-StartsWith, tasks-Like, tasks-And, tasks-Or, tasks-Not)
 
 pub ruleset refusals = (no_column, types_differ, null_asked)
 

@@ -8,6 +8,9 @@ use Rattle.std.proofs.lemmas.Bool.{false≢true}
 use Rattle.std.proofs.lemmas.Bool.Decides.{nat_tests}
 use Rattle.std.proofs.lemmas.List.{map-append, take_all, take_more}
 use Rattle.std.proofs.lemmas.Result.{err_from_is_err_and}
+use Rattle.like_patterns.specs.declared.case.Case.{Case}
+use Rattle.like_patterns.specs.Patterns.{Part}
+use Rattle.vortex_dtype.specs.Parts.{is_utf8_type}
 use Rattle.vortex_dtype.specs.TypeOf.{type_of}
 use Rattle.vortex_dtype.specs.TypeTree.{TypeTree, as_nullable, binary_type, integer_type, utf8_type}
 use Rattle.vortex_dtype.specs.declared.error.VortexError.{VortexError}
@@ -39,22 +42,22 @@ use Rattle.vortex_filter.specs.declared.operator.CompareOperator.{CompareOperato
 use Rattle.vortex_filter.specs.declared.operator.CompareOperator.TheVariants.{Gte, Lte}
 use Rattle.vortex_filter.specs.declared.truth.Truth.{Truth}
 use Rattle.vortex_filter.specs.CheckSteps.{answer_behind, behind, holds_strings}
-use Rattle.vortex_filter.specs.Checking.{AllFit, Demand, FitsColumns, IsOrderedFor, RefusesFirst, Suits, Test, asks, beginning, comparing, nothing, tests}
+use Rattle.vortex_filter.specs.Checking.{AllFit, Demand, FitsColumns, IsOrderedFor, RefusesFirst, Suits, Test, asks, beginning, comparing, matching, nothing, tests}
 use Rattle.vortex_filter.specs.Coerces.{Coerces, CoercesLiteral, CoercesLiterals, CoercesTest, GivesOrdered, RefusesLiterals, StandsAt, integer_in, lacking_of, lacking_order, number_in, number_lacking}
 use Rattle.vortex_filter.specs.Coercing.{IsCoercible, KeepsValue, by_column, coerced, coerced_cell, lacks, lacks_number, position_in, side}
 use Rattle.vortex_filter.specs.Extensions.{reinterprets}
-use Rattle.vortex_filter.specs.Formula.{Formula, constant, comparison, null_test, membership, range, prefix_test, both, either, negation, formula, truth}
-use Rattle.vortex_filter.specs.FilterLiterals.{AreValid, exactly_of, literal_tests, literals_of}
+use Rattle.vortex_filter.specs.Formula.{Formula, constant, comparison, null_test, membership, range, prefix_test, pattern_test, both, either, negation, formula, truth}
+use Rattle.vortex_filter.specs.FilterLiterals.{AreValid, MakesCopies, exactly_of, literal_tests, literals_of}
 use Rattle.vortex_filter.specs.Makes.{Makes, OfParts}
 use Rattle.vortex_filter.specs.Positions.{PositionTree, exactly, just_above, lacking, cells_of, compared_scalars, comparison_of, member_among, member_of, position_tree, prefix_of, range_of, scalars_at, scalars_of}
 use Rattle.vortex_filter.specs.Rows.{IsRowOf, content_truth}
 use Rattle.vortex_cells.specs.Variants.{has_variant}
-use Rattle.vortex_filter.proofs.CheckLaws.{fit_both, fit_one, not_both, refuses_behind, refuses_front, refuses_one, strings_test}
+use Rattle.vortex_filter.proofs.CheckLaws.{fit_both, fit_one, not_both, refuses_behind, refuses_front, refuses_one, strings_test, text_test}
 use Rattle.vortex_filter.proofs.CoerceLaws.{NullableIsSame, coerced_fits, coerced_truth}
 use Rattle.vortex_filter.proofs.FitProofs.{coerced_itself, fitting_position}
-use Rattle.vortex_filter.proofs.LiteralSteps.{constant_valid, copy_valid, literals-And, literals-Between, literals-Compare, literals-Constant, literals-In, literals-IsNull, literals-Not, literals-Or, literals-StartsWith, valid_compared, valid_left, valid_right, valid_same, valid_with}
-use Rattle.vortex_filter.proofs.Steps.{formula-And, formula-Between, formula-Compare, formula-Constant, formula-In, formula-IsNull, formula-Not, formula-Or, formula-StartsWith}
-use Rattle.vortex_filter.proofs.TestSteps.{coercible_columns, count_is, fitting_coercible, tests-And, tests-Between, tests-Compare, tests-Constant, tests-In, tests-IsNull, tests-Not, tests-Or, tests-StartsWith}
+use Rattle.vortex_filter.proofs.LiteralSteps.{constant_valid, copies_valid, copy_valid, literals-And, literals-Between, literals-Compare, literals-Constant, literals-In, literals-IsNull, literals-Like, literals-Not, literals-Or, literals-StartsWith, valid_compared, valid_left, valid_right, valid_same, valid_with}
+use Rattle.vortex_filter.proofs.Steps.{formula-And, formula-Between, formula-Compare, formula-Constant, formula-In, formula-IsNull, formula-Like, formula-Not, formula-Or, formula-StartsWith}
+use Rattle.vortex_filter.proofs.TestSteps.{coercible_columns, count_is, fitting_coercible, tests-And, tests-Between, tests-Compare, tests-Constant, tests-In, tests-IsNull, tests-Like, tests-Not, tests-Or, tests-StartsWith}
 use Rattle.vortex_cells.proofs.VariantSteps.{none-from_test, test-from_none}
 
 -- ---- connectives
@@ -129,7 +132,7 @@ negation_coerces columns f ts ls (Ok a) (Err e) h w m = inl w
 pub constant_coerces : (columns : List TypeTree) (t : Truth) → Coerces columns (constant t) [] [] (Ok (Constant t))
 constant_coerces columns t = (formula-Constant t, tt, λ v. constant_valid t)
 
-pub ruleset shown = (negation_coerces, constant_coerces, formula-Constant, formula-Compare, formula-IsNull, formula-In, formula-Between, formula-StartsWith, formula-And, formula-Or, formula-Not, literals-Constant, literals-Compare, literals-IsNull, literals-In, literals-Between, literals-StartsWith, literals-And, literals-Or, literals-Not, tests-Constant, tests-Compare, tests-IsNull, tests-In, tests-Between, tests-StartsWith, tests-And, tests-Or, tests-Not)
+pub ruleset shown = (negation_coerces, constant_coerces, formula-Constant, formula-Compare, formula-IsNull, formula-In, formula-Between, formula-StartsWith, formula-Like, formula-And, formula-Or, formula-Not, literals-Constant, literals-Compare, literals-IsNull, literals-In, literals-Between, literals-StartsWith, literals-Like, literals-And, literals-Or, literals-Not, tests-Constant, tests-Compare, tests-IsNull, tests-In, tests-Between, tests-StartsWith, tests-Like, tests-And, tests-Or, tests-Not)
 
 -- ---- a test and its column
 
@@ -148,6 +151,11 @@ module _ (columns : List TypeTree) (f : Formula) (k : ℕ) (d : Demand Scalar) (
       inr (subst (RefusesFirst IsCoercible columns (asks k d)) (sym p.1)
       (refuses_one IsCoercible columns k d (HasVariant 0 k) (refl, refl, subst (λ c. IsSomeAnd c (λ t. ¬ (IsOrderedFor d t))) (sym p.2) (λ h. p.3 (o p.0 h)))))
 
+-- what is the same in each column
+in_any_column : (f : Formula) (o : Option TypeTree) → f ≡ by_column o f (λ t. f)
+in_any_column f None = refl
+in_any_column f (Some t) = refl
+
 module _ (columns : List TypeTree) (k : ℕ) (t : TypeTree) (r : Result Filter FilterError) where
   pub comparison_column : (op : CompareOperator) (x : Scalar) → (slice_get columns k ≡ Some t) × HasNoVariant t → CoercesTest t (comparing (x ∷ [])) (comparison_of k op (position_in t (cell_of x))) (x ∷ []) k r
       → Coerces columns (comparison k op (cell_of x)) (asks k (comparing (x ∷ []))) (x ∷ []) r
@@ -164,6 +172,9 @@ module _ (columns : List TypeTree) (k : ℕ) (t : TypeTree) (r : Result Filter F
   pub prefix_column : (p : Scalar) → (slice_get columns k ≡ Some t) × HasNoVariant t → CoercesTest t (beginning p) (prefix_test k (coerced_cell t (cell_of p))) (p ∷ []) k r
       → Coerces columns (prefix_test k (cell_of p)) (asks k (beginning p)) (p ∷ []) r
   prefix_column p e h = test_coerces columns (prefix_test k (cell_of p)) k (beginning p) (λ t. prefix_test k (coerced_cell t (cell_of p))) (p ∷ []) refl t r e.0 e.1 h
+
+  pub pattern_column : (case : Case) (parts : List Part) → (slice_get columns k ≡ Some t) × HasNoVariant t → CoercesTest t matching (pattern_test k case parts) [] k r → Coerces columns (pattern_test k case parts) (asks k matching) [] r
+  pattern_column case parts e h = test_coerces columns (pattern_test k case parts) k matching (λ t. pattern_test k case parts) [] (in_any_column (pattern_test k case parts) (slice_get columns k)) t r e.0 e.1 h
 
 -- the column is not there, or a variant stands in its type
 abbrev pub NoOrdered : List TypeTree → ℕ → FilterError → Type 0
@@ -182,13 +193,16 @@ module _ (columns : List TypeTree) (k : ℕ) (e : FilterError) where
   pub prefix_refused : (p : Scalar) → NoOrdered columns k e → Coerces columns (prefix_test k (cell_of p)) (asks k (beginning p)) (p ∷ []) (Err e)
   prefix_refused p h = test_refused columns (prefix_test k (cell_of p)) k (beginning p) (λ t. prefix_test k (coerced_cell t (cell_of p))) (p ∷ []) refl e (λ t o. o) h
 
+  pub pattern_refused : (case : Case) (parts : List Part) → NoOrdered columns k e → Coerces columns (pattern_test k case parts) (asks k matching) [] (Err e)
+  pattern_refused case parts h = test_refused columns (pattern_test k case parts) k matching (λ t. pattern_test k case parts) [] (in_any_column (pattern_test k case parts) (slice_get columns k)) e (λ t o. o) h
+
 pub null_there : (columns : List TypeTree) (k : ℕ) (t : TypeTree) → Some t ≡ slice_get columns k → Coerces columns (null_test k) (asks k nothing) [] (Ok (IsNull k))
 null_there columns k t e = (formula-IsNull k, fit_one IsCoercible columns k nothing t (sym e) tt tt, λ v. valid_same (literals_of (IsNull k)) [] (literals-IsNull k) tt)
 
 pub null_absent : (columns : List TypeTree) (k : ℕ) → None ≡ slice_get columns k → Coerces columns (null_test k) (asks k nothing) [] (Err (NoColumn 0 k))
 null_absent columns k e = inr (refuses_one IsCoercible columns k nothing (NoColumn 0 k) (refl, refl, sym e))
 
-pub ruleset columns = (comparison_column, membership_column, range_column, prefix_column, comparison_refused, membership_refused, range_refused, prefix_refused, null_there, null_absent, formula-IsNull)
+pub ruleset columns = (comparison_column, membership_column, range_column, prefix_column, pattern_column, comparison_refused, membership_refused, range_refused, prefix_refused, pattern_refused, null_there, null_absent, formula-IsNull)
 
 -- ---- the type of a column
 
@@ -365,6 +379,16 @@ module _ (t : TypeTree) (k : ℕ) (p : Scalar) where
   prefix_stops e (inr q) = inr (q.0, λ s. q.1 s.1)
 
 pub ruleset prefixes = (no_strings)
+
+-- ---- patterns
+
+module _ (t : TypeTree) (k : ℕ) (f : Formula) where
+  pub pattern_stands : (r : Result Filter FilterError) → is_utf8_type t ≡ true → Makes f r → MakesCopies [] r → CoercesTest t matching f [] k r
+  pattern_stands (Ok g) e made copies = (made, (text_test t).0 e, λ v. copies_valid [] (Ok g) copies tt)
+  pattern_stands (Err d) e made copies = inl made
+
+  pub no_text : is_utf8_type t ≡ false → CoercesTest t matching f [] k (Err (TypesDiffer 0 k))
+  no_text e = inr (refl, (text_test t).1 e)
 
 -- ---- several literals
 

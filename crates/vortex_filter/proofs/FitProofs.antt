@@ -14,10 +14,10 @@ use Rattle.vortex_value.specs.Values.Content.{Content, null, truth as truth_cont
 use Rattle.vortex_cells.specs.Cells.{Cell, cell_or_null, is_null_cell, is_null_content}
 use Rattle.vortex_filter.specs.declared.operator.CompareOperator.{CompareOperator}
 use Rattle.vortex_filter.specs.declared.truth.Truth.TheVariants.{Unknown}
-use Rattle.vortex_filter.specs.Checking.{AllFit, Demand, FitsColumns, IsOfType, Suits, Test, beginning, comparing, nothing, tests}
+use Rattle.vortex_filter.specs.Checking.{AllFit, Demand, FitsColumns, IsOfType, Suits, Test, beginning, comparing, matching, nothing, tests}
 use Rattle.vortex_filter.specs.Coercing.{by_column, coerced, coerced_cell, lacks, lacks_number, position_in, side}
 use Rattle.vortex_filter.specs.FitLaws.{FittingComparesContents, IsPlainType, UnknownForNulls, UnknownWithoutOrder}
-use Rattle.vortex_filter.specs.Formula.{Formula, constant, comparison, null_test, membership, range, prefix_test, both, either, negation, cell_at, order_truth, truth}
+use Rattle.vortex_filter.specs.Formula.{Formula, constant, comparison, null_test, membership, range, prefix_test, pattern_test, both, either, negation, cell_at, order_truth, truth}
 use Rattle.vortex_filter.specs.Operators.{holds}
 use Rattle.vortex_filter.specs.Positions.{exactly, lacking, cells_of, comparison_of, member_among, member_of, range_of}
 use Rattle.vortex_filter.specs.Rows.{IsCellOf, IsRowOf}
@@ -60,6 +60,7 @@ coerced_itself columns (range k x y) h =
 coerced_itself columns (prefix_test k p) h =
     let t : TypeTree = h.0.dtype in
     ap (λ o. by_column o (prefix_test k p) (λ t. prefix_test k (coerced_cell t p))) h.0.there ∙ ap (prefix_test k) (fitting_cell t p h.0.suits.1)
+coerced_itself columns (pattern_test k case parts) h = refl
 coerced_itself columns (both f g) h = ap₂ both (coerced_itself columns f (fits_left IsOfType columns (tests f) (tests g) h)) (coerced_itself columns g (fits_right IsOfType columns (tests f) (tests g) h))
 coerced_itself columns (either f g) h = ap₂ either (coerced_itself columns f (fits_left IsOfType columns (tests f) (tests g) h)) (coerced_itself columns g (fits_right IsOfType columns (tests f) (tests g) h))
 coerced_itself columns (negation f) h = ap negation (coerced_itself columns f h)
@@ -74,6 +75,7 @@ suits_any (comparing xs) t h = each xs
     each [] = tt
     each (x ∷ xs) = (tt, each xs)
 suits_any (beginning p) t h = (h.0, tt)
+suits_any matching t h = h
 
 fits_any : (columns : List TypeTree) (ts : List (Test Cell)) → AllFit IsOfType columns ts → AllFit AnyLiteral columns ts
 fits_any columns [] h = tt

@@ -14,6 +14,7 @@ pub mod Loops
 pub mod MakeSteps
 pub mod MemorySteps
 pub mod NamedLaws
+pub mod PatternLaws
 pub mod PositionLaws
 pub mod PrefixSteps
 pub mod StandingLaws

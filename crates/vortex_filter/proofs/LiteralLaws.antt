@@ -12,7 +12,7 @@ use Rattle.vortex_filter.specs.declared.filter.Filter.TheOpen.{Filter-F}
 use Rattle.vortex_filter.specs.declared.filter.Filter.TheFolds.{fold-roll-Filter, ind-Filter, map-Filter}
 use Rattle.vortex_filter.specs.declared.filter.Filter.TheViews.{roll-Filter}
 use Rattle.vortex_filter.specs.FilterLiterals.{AreValid, FormulasSayLiterals, exactly_of, literals_of, literals_step}
-use Rattle.vortex_filter.specs.Formula.{Formula, constant, comparison, null_test, membership, range, prefix_test, both, either, negation, formula, formula_step}
+use Rattle.vortex_filter.specs.Formula.{Formula, constant, comparison, null_test, membership, range, prefix_test, pattern_test, both, either, negation, formula, formula_step}
 
 -- ---- cells
 
@@ -23,6 +23,7 @@ cells_in (null_test k) = []
 cells_in (membership k xs) = xs
 cells_in (range k x y) = x ∷ y ∷ []
 cells_in (prefix_test k p) = p ∷ []
+cells_in (pattern_test k case parts) = []
 cells_in (both f g) = cells_in f ++ cells_in g
 cells_in (either f g) = cells_in f ++ cells_in g
 cells_in (negation f) = cells_in f
@@ -45,6 +46,7 @@ module _ (S : Type 0) (part : S → Filter) (are : (s : S) → CellsAre (part s)
   by_layer (Filter-F.In k xs) = by_step (Filter-F.In k xs) refl
   by_layer (Filter-F.Between k x y) = by_step (Filter-F.Between k x y) refl
   by_layer (Filter-F.StartsWith k p) = by_step (Filter-F.StartsWith k p) refl
+  by_layer (Filter-F.Like k parts case) = by_step (Filter-F.Like k parts case) refl
   by_layer (Filter-F.And f g) = by_step (map-Filter S Filter part (Filter-F.And f g)) (joined f.value g.value)
   by_layer (Filter-F.Or f g) = by_step (map-Filter S Filter part (Filter-F.Or f g)) (joined f.value g.value)
   by_layer (Filter-F.Not f) = by_step (map-Filter S Filter part (Filter-F.Not f)) (are f.value)

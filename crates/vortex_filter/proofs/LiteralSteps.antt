@@ -1,13 +1,15 @@
 -- The literals of each kind of filter, that they are valid, and copies of them.
 use Rattle.std.proofs.Common.{◌≡◌, ℕ, Vec, Global, Box, List, [], ◌∷◌, ◌++◌, map, Result, Ok, Err, IfOk, MatchResult, sym, subst, ap, ap₂, ◌∙◌, rules}
 use Rattle.std.proofs.lemmas.List.{map-append}
+use Rattle.like_patterns.specs.declared.case.Case.{Case}
+use Rattle.like_patterns.specs.Patterns.{Part}
 use Rattle.vortex_dtype.specs.TypeTree.{TypeTree}
 use Rattle.vortex_value.specs.Validity.{Valid}
 use Rattle.vortex_value.specs.Values.RawTree.{RawTree}
 use Rattle.vortex_value.specs.Values.Scalars.{IsMadeOf, IsValid, scalar_raw, scalar_type}
 use Rattle.vortex_value.specs.declared.scalars.Scalar.{Scalar}
 use Rattle.vortex_filter.specs.declared.error.FilterError.{FilterError}
-use Rattle.vortex_filter.specs.declared.filter.Filter.{Filter, Constant, Compare, IsNull, In, Between, StartsWith, And, Or, Not, the_lemmas}
+use Rattle.vortex_filter.specs.declared.filter.Filter.{Filter, Constant, Compare, IsNull, In, Between, StartsWith, Like, And, Or, Not, the_lemmas}
 use Rattle.vortex_filter.specs.declared.literals.Position.{Position}
 use Rattle.vortex_filter.specs.declared.literals.Position.TheVariants.{Exactly, JustAbove, Lacking}
 use Rattle.vortex_filter.specs.declared.operator.CompareOperator.{CompareOperator}
@@ -37,6 +39,9 @@ literals-Between k x y = search (rules, the_lemmas)
 pub literals-StartsWith : (k : ℕ) (p : Scalar) → literals_of (StartsWith k p) ≡ p ∷ []
 literals-StartsWith k p = search (rules, the_lemmas)
 
+pub literals-Like : (k : ℕ) (parts : List Part) (case : Case) → literals_of (Like k parts case) ≡ []
+literals-Like k parts case = search (rules, the_lemmas)
+
 pub literals-And : (f g : Box Filter Global) → literals_of (And f g) ≡ literals_of f.value ++ literals_of g.value
 literals-And f g = search (rules, the_lemmas)
 
@@ -46,7 +51,7 @@ literals-Or f g = search (rules, the_lemmas)
 pub literals-Not : (f : Box Filter Global) → literals_of (Not f) ≡ literals_of f.value
 literals-Not f = search (rules, the_lemmas)
 
-pub ruleset literals = (literals-Constant, literals-Compare, literals-IsNull, literals-In, literals-Between, literals-StartsWith, literals-And, literals-Or, literals-Not)
+pub ruleset literals = (literals-Constant, literals-Compare, literals-IsNull, literals-In, literals-Between, literals-StartsWith, literals-Like, literals-And, literals-Or, literals-Not)
 
 -- ---- valid scalars
 
@@ -91,7 +96,7 @@ valid_at (Exactly x) v = v
 valid_at (JustAbove x) v = tt
 valid_at (Lacking o) v = v
 
-pub ruleset valid = (valid_same, valid_with, valid_compared, valid_at, constant_valid, literals-Constant, literals-Compare, literals-IsNull, literals-In, literals-Between, literals-StartsWith, literals-And, literals-Or, literals-Not)
+pub ruleset valid = (valid_same, valid_with, valid_compared, valid_at, constant_valid, literals-Constant, literals-Compare, literals-IsNull, literals-In, literals-Between, literals-StartsWith, literals-Like, literals-And, literals-Or, literals-Not)
 
 -- ---- copies
 
@@ -133,7 +138,7 @@ negation_copies xs (Err e) s h w = subst (MakesCopies xs) (sym w) tt
 negation_copies xs (Ok f) (Ok p) h w = ap (map exactly_of) w ∙ h
 negation_copies xs (Ok f) (Err e) h w = tt
 
-pub ruleset copied = (both_copies, negation_copies, literals-Constant, literals-Compare, literals-IsNull, literals-In, literals-Between, literals-StartsWith, literals-And, literals-Or, literals-Not)
+pub ruleset copied = (both_copies, negation_copies, literals-Constant, literals-Compare, literals-IsNull, literals-In, literals-Between, literals-StartsWith, literals-Like, literals-And, literals-Or, literals-Not)
 
 -- ---- filters of parts
 

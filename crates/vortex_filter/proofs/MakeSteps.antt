@@ -10,7 +10,7 @@ use Rattle.vortex_filter.specs.declared.error.FilterError.{FilterError}
 use Rattle.vortex_filter.specs.declared.filter.Filter.{Filter}
 use Rattle.vortex_filter.specs.Formula.{Formula, both, either, formula, negation}
 use Rattle.vortex_filter.specs.Makes.{Makes, MakesUnlessBare, OfParts, IsBare}
-use Rattle.vortex_filter.proofs.Steps.{formula-And, formula-Between, formula-Compare, formula-Constant, formula-In, formula-IsNull, formula-Not, formula-Or, formula-StartsWith}
+use Rattle.vortex_filter.proofs.Steps.{formula-And, formula-Between, formula-Compare, formula-Constant, formula-In, formula-IsNull, formula-Like, formula-Not, formula-Or, formula-StartsWith}
 
 abbrev cell_from : TypeTree → RawTree → Cell
 cell_from t v = record { typed = t; content = content v }
@@ -38,4 +38,4 @@ pub negation_made : (f : Formula) (l s : Result Filter FilterError) → MakesUnl
 negation_made f (Err e) s h w = subst (MakesUnlessBare (negation f)) (sym w) (h.0, λ b. b)
 negation_made f (Ok a) s h w = unless_bare (negation f) s (λ b. b) (subst (λ p. Makes (negation p) s) h w)
 
-pub ruleset shown = (both_made, either_made, negation_made, unless_bare, formula-Constant, formula-Compare, formula-IsNull, formula-In, formula-Between, formula-StartsWith, formula-And, formula-Or, formula-Not)
+pub ruleset shown = (both_made, either_made, negation_made, unless_bare, formula-Constant, formula-Compare, formula-IsNull, formula-In, formula-Between, formula-StartsWith, formula-Like, formula-And, formula-Or, formula-Not)

@@ -1,6 +1,6 @@
 -- Where memory is asked for the scalar at which a literal stands.
 use Rattle.std.proofs.Common.{◌≡◌, ℤ, List, ℕ, Option, Some, IfErr, Result, option_and_then, option_map, sym, subst, ap}
-use Rattle.vortex_dtype.specs.TypeTree.{IsFlat, TypeTree, as_nullable, bool_type, extension_type, integer_type, null_type}
+use Rattle.vortex_dtype.specs.TypeTree.{IsFlat, TypeTree, as_nullable, bool_type, integer_type, null_type}
 use Rattle.logical_scalars.specs.Stored.{IsOfLogicalType}
 use Rattle.logical_scalars.specs.TypeShapes.{shape_in}
 use Rattle.logical_types.specs.Shapes.{Shape, shape_of}

@@ -6,7 +6,7 @@ use Rattle.vortex_value.specs.TypesWithin.{HasNoVariant}
 use Rattle.vortex_cells.specs.Cells.{Cell}
 use Rattle.vortex_filter.specs.declared.operator.CompareOperator.{CompareOperator}
 use Rattle.vortex_filter.specs.declared.operator.CompareOperator.TheVariants.{Eq, NotEq, Gt, Gte, Lt, Lte}
-use Rattle.vortex_filter.specs.Checking.{AllFit, HoldsStrings, IsOfType, asks, beginning, comparing, nothing, tests}
+use Rattle.vortex_filter.specs.Checking.{AllFit, HoldsStrings, HoldsText, IsOfType, asks, beginning, comparing, matching, nothing, tests}
 use Rattle.vortex_filter.specs.Operators.{holds}
 use Rattle.vortex_filter.specs.Positions.{PositionTree, exactly, just_above, lacking, cells_of, comparison_above, comparison_of, for_values, member_among, member_of, range_of}
 use Rattle.vortex_filter.proofs.CheckLaws.{fit_both, fit_one}
@@ -40,6 +40,9 @@ module _ (columns : List TypeTree) (k : ℕ) (t : TypeTree) (there : slice_get c
 
     pub prefix_fits : (x : Cell) → HoldsStrings t → IsOfType t x → AllFit IsOfType columns (asks k (beginning x))
     prefix_fits x s h = fit_one IsOfType columns k (beginning x) t there ordered (s, h)
+
+    pub pattern_fits : HoldsText t → AllFit IsOfType columns (asks k matching)
+    pattern_fits s = fit_one IsOfType columns k matching t there ordered s
 
     above_fits : (op : CompareOperator) (x : Cell) → IsOfType t x → AllFit IsOfType columns (tests (comparison_above k op x))
     above_fits Eq x h = settled_fits false

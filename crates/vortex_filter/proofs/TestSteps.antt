@@ -2,16 +2,18 @@
 use Rattle.std.proofs.Common.{◌≡◌, inl, ℕ, Vec, Global, Box, List, [], ◌∷◌, ◌++◌, map, length, refl, sym, subst, ap, ap₂, ◌∙◌, rules}
 use Rattle.std.specs.List.{AllByRecursion}
 use Rattle.std.proofs.lemmas.List.{length-map, map-append}
+use Rattle.like_patterns.specs.declared.case.Case.{Case}
+use Rattle.like_patterns.specs.Patterns.{Part}
 use Rattle.vortex_dtype.specs.TypeTree.{TypeTree}
 use Rattle.vortex_value.specs.declared.scalars.Scalar.{Scalar}
 use Rattle.vortex_cells.specs.Cells.{Cell, cell_of}
-use Rattle.vortex_filter.specs.declared.filter.Filter.{Filter, Constant, Compare, IsNull, In, Between, StartsWith, And, Or, Not, the_lemmas}
+use Rattle.vortex_filter.specs.declared.filter.Filter.{Filter, Constant, Compare, IsNull, In, Between, StartsWith, Like, And, Or, Not, the_lemmas}
 use Rattle.vortex_filter.specs.declared.filter.Filter.TheOpen.{Filter-F}
 use Rattle.vortex_filter.specs.declared.filter.Filter.TheFolds.{fold-roll-Filter, ind-Filter, map-Filter}
 use Rattle.vortex_filter.specs.declared.filter.Filter.TheViews.{roll-Filter}
 use Rattle.vortex_filter.specs.declared.operator.CompareOperator.{CompareOperator}
 use Rattle.vortex_filter.specs.declared.truth.Truth.{Truth}
-use Rattle.vortex_filter.specs.Checking.{AllFit, Demand, FitsColumns, IsOfType, IsOrderedFor, Suits, Test, asks, beginning, comparing, nothing, tests}
+use Rattle.vortex_filter.specs.Checking.{AllFit, Demand, FitsColumns, IsOfType, IsOrderedFor, Suits, Test, asks, beginning, comparing, matching, nothing, tests}
 use Rattle.vortex_filter.specs.Coercing.{IsCoercible}
 use Rattle.vortex_filter.specs.FilterLiterals.{literal_tests, literal_tests_step}
 use Rattle.vortex_filter.specs.Formula.{Formula, formula, formula_step}
@@ -37,6 +39,9 @@ tests-Between k x y = search (rules, the_lemmas)
 pub tests-StartsWith : (k : ℕ) (p : Scalar) → literal_tests (StartsWith k p) ≡ asks k (beginning p)
 tests-StartsWith k p = search (rules, the_lemmas)
 
+pub tests-Like : (k : ℕ) (parts : List Part) (case : Case) → literal_tests (Like k parts case) ≡ asks k matching
+tests-Like k parts case = search (rules, the_lemmas)
+
 pub tests-And : (f g : Box Filter Global) → literal_tests (And f g) ≡ literal_tests f.value ++ literal_tests g.value
 tests-And f g = search (rules, the_lemmas)
 
@@ -53,6 +58,7 @@ abbrev cell_demand : Demand Scalar → Demand Cell
 cell_demand nothing = nothing
 cell_demand (comparing xs) = comparing (map cell_of xs)
 cell_demand (beginning p) = beginning (cell_of p)
+cell_demand matching = matching
 
 abbrev cell_test : Test Scalar → Test Cell
 cell_test test = record { column = test.column; demand = cell_demand test.demand }
@@ -75,6 +81,7 @@ module _ (S : Type 0) (part : S → Filter) (are : (s : S) → TestsAre (part s)
   by_layer (Filter-F.In k xs) = by_step (Filter-F.In k xs) refl
   by_layer (Filter-F.Between k x y) = by_step (Filter-F.Between k x y) refl
   by_layer (Filter-F.StartsWith k p) = by_step (Filter-F.StartsWith k p) refl
+  by_layer (Filter-F.Like k parts case) = by_step (Filter-F.Like k parts case) refl
   by_layer (Filter-F.And f g) = by_step (map-Filter S Filter part (Filter-F.And f g)) (joined f.value g.value)
   by_layer (Filter-F.Or f g) = by_step (map-Filter S Filter part (Filter-F.Or f g)) (joined f.value g.value)
   by_layer (Filter-F.Not f) = by_step (map-Filter S Filter part (Filter-F.Not f)) (are f.value)
@@ -91,11 +98,13 @@ ordered_for : (d : Demand Scalar) (t : TypeTree) → IsOrderedFor (cell_demand d
 ordered_for nothing t h = h
 ordered_for (comparing xs) t h = h
 ordered_for (beginning p) t h = h
+ordered_for matching t h = h
 
 ordered_from : (d : Demand Scalar) (t : TypeTree) → IsOrderedFor d t → IsOrderedFor (cell_demand d) t
 ordered_from nothing t h = h
 ordered_from (comparing xs) t h = h
 ordered_from (beginning p) t h = h
+ordered_from matching t h = h
 
 suits_coercible : (d : Demand Scalar) (t : TypeTree) → Suits IsOfType (cell_demand d) t → Suits IsCoercible d t
 suits_coercible nothing t h = tt
@@ -105,6 +114,7 @@ suits_coercible (comparing xs) t h = each xs h
     each [] h = tt
     each (x ∷ xs) h = (inl h.0, each xs h.1)
 suits_coercible (beginning p) t h = (h.0, inl h.1)
+suits_coercible matching t h = h
 
 suits_any : (d : Demand Scalar) (t : TypeTree) → Suits IsCoercible d t → Suits AnyLiteral (cell_demand d) t
 suits_any nothing t h = tt
@@ -114,6 +124,7 @@ suits_any (comparing xs) t h = each (map cell_of xs)
     each [] = tt
     each (x ∷ xs) = (tt, each xs)
 suits_any (beginning p) t h = (h.0, tt)
+suits_any matching t h = h
 
 all_coercible : (columns : List TypeTree) (ts : List (Test Scalar)) → AllFit IsOfType columns (map cell_test ts) → AllFit IsCoercible columns ts
 all_coercible columns [] h = tt

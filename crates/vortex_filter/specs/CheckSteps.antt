@@ -7,8 +7,8 @@ use Rattle.vortex_value.specs.Equality.{same_type}
 use Rattle.vortex_value.specs.Size.{capped}
 use Rattle.vortex_filter.specs.declared.error.FilterError.{FilterError}
 use Rattle.vortex_filter.specs.declared.error.FilterError.TheVariants.{OutOfMemory, NoColumn, HasVariant, TypesDiffer}
-use Rattle.vortex_filter.specs.Checking.{Demand, beginning, comparing, nothing, tests}
-use Rattle.vortex_filter.specs.Formula.{Formula, constant, comparison, null_test, membership, range, prefix_test, both, either, negation}
+use Rattle.vortex_filter.specs.Checking.{Demand, beginning, comparing, matching, nothing, tests}
+use Rattle.vortex_filter.specs.Formula.{Formula, constant, comparison, null_test, membership, range, prefix_test, pattern_test, both, either, negation}
 use Rattle.vortex_cells.specs.Cells.{Cell}
 use Rattle.vortex_cells.specs.Variants.{has_variant}
 
@@ -16,17 +16,19 @@ use Rattle.vortex_cells.specs.Variants.{has_variant}
 abbrev pub holds_strings : TypeTree → Bool
 holds_strings t = is_utf8_type t || is_binary_type t
 
--- whether the literals are of the type, and what may begin with one is a string, or bytes
+-- whether the literals are of the type, what may begin with one is a string, or bytes, and what may match a pattern a string
 abbrev pub suits : Demand Cell → TypeTree → Bool
 suits nothing t = true
 suits (comparing xs) t = list_all (λ x. same_type t x.typed) xs
 suits (beginning p) t = holds_strings t && same_type t p.typed
+suits matching t = is_utf8_type t
 
 -- whether an order is wanted of the type's values, and there is none
 abbrev pub lacks_order : Demand Cell → TypeTree → Bool
 lacks_order nothing t = false
 lacks_order (comparing xs) t = has_variant t
 lacks_order (beginning p) t = has_variant t
+lacks_order matching t = has_variant t
 
 -- the answer for one test, by its column's type
 abbrev pub checked_test : Option TypeTree → Demand Cell → ℕ → Result (Unit {0}) FilterError
@@ -58,6 +60,7 @@ checked columns (null_test k) = checked_test (slice_get columns k) nothing k
 checked columns (membership k xs) = checked_test (slice_get columns k) (comparing xs) k
 checked columns (range k x y) = checked_test (slice_get columns k) (comparing (x ∷ y ∷ [])) k
 checked columns (prefix_test k p) = checked_test (slice_get columns k) (beginning p) k
+checked columns (pattern_test k case parts) = checked_test (slice_get columns k) matching k
 checked columns (both f g) = answer_of_both (capped (length (tests f))) (checked columns f) (checked columns g)
 checked columns (either f g) = answer_of_both (capped (length (tests f))) (checked columns f) (checked columns g)
 checked columns (negation f) = checked columns f

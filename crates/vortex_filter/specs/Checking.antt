@@ -7,13 +7,15 @@ use Rattle.vortex_value.specs.TypesWithin.{HasNoVariant}
 use Rattle.vortex_cells.specs.Cells.{Cell}
 use Rattle.vortex_filter.specs.declared.error.FilterError.{FilterError}
 use Rattle.vortex_filter.specs.declared.error.FilterError.TheVariants.{OutOfMemory, NoColumn, HasVariant, TypesDiffer}
-use Rattle.vortex_filter.specs.Formula.{Formula, constant, comparison, null_test, membership, range, prefix_test, both, either, negation}
+use Rattle.vortex_filter.specs.Formula.{Formula, constant, comparison, null_test, membership, range, prefix_test, pattern_test, both, either, negation}
 
--- what a test asks of its column: nothing; that it compares with these literals; that it holds what may begin with this one
+-- what a test asks of its column: nothing; that it compares with these literals; that it holds what may begin with this one;
+-- that it holds what may match a pattern
 pub data Demand (X : Type 0) : Type 0 where
   nothing : Demand X
   comparing : List X → Demand X
   beginning : X → Demand X
+  matching : Demand X
 
 -- a test of a column
 pub record Test (X : Type 0) : Type 0 where
@@ -32,6 +34,7 @@ tests (null_test k) = asks k nothing
 tests (membership k xs) = asks k (comparing xs)
 tests (range k x y) = asks k (comparing (x ∷ y ∷ []))
 tests (prefix_test k p) = asks k (beginning p)
+tests (pattern_test k case parts) = asks k matching
 tests (both f g) = tests f ++ tests g
 tests (either f g) = tests f ++ tests g
 tests (negation f) = tests f
@@ -44,6 +47,11 @@ HoldsStrings (utf8_type n) = Unit {0}
 HoldsStrings (binary_type n) = Unit {0}
 HoldsStrings _ = ⊥
 
+-- strings alone
+abbrev pub HoldsText : TypeTree → Type 0
+HoldsText (utf8_type n) = Unit {0}
+HoldsText _ = ⊥
+
 -- the literal is of the type, up to nullability
 abbrev pub IsOfType : TypeTree → Cell → Type 0
 IsOfType t x = Same t x.typed
@@ -53,12 +61,15 @@ abbrev pub IsOrderedFor : {X : Type 0} → Demand X → TypeTree → Type 0
 IsOrderedFor nothing t = Unit {0}
 IsOrderedFor (comparing xs) t = HasNoVariant t
 IsOrderedFor (beginning p) t = HasNoVariant t
+IsOrderedFor matching t = HasNoVariant t
 
--- P holds of the type and each literal; and what may begin with a literal is a string, or bytes
+-- P holds of the type and each literal; what may begin with a literal is a string, or bytes, and what may match a pattern a
+-- string
 abbrev pub Suits : {X : Type 0} → (TypeTree → X → Type 0) → Demand X → TypeTree → Type 0
 Suits P nothing t = Unit {0}
 Suits P (comparing xs) t = AllByRecursion (P t) xs
 Suits P (beginning p) t = HoldsStrings t × P t p
+Suits P matching t = HoldsText t
 
 -- the column of the test is there, its values have an order, and P holds of its type and each literal
 pub record Fits {X : Type 0} (P : TypeTree → X → Type 0) (columns : List TypeTree) (test : Test X) : Type 0 where

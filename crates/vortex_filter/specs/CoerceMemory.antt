@@ -10,7 +10,7 @@ use Rattle.vortex_filter.specs.declared.error.FilterError.{FilterError}
 use Rattle.vortex_filter.specs.declared.error.FilterError.TheVariants.{OutOfMemory}
 use Rattle.vortex_filter.specs.declared.filter.Filter.{Filter, fold-Filter}
 use Rattle.vortex_filter.specs.declared.filter.Filter.TheOpen.{Filter-F}
-use Rattle.vortex_filter.specs.Checking.{Demand, Fits, HoldsStrings, IsOrderedFor, beginning, comparing, nothing}
+use Rattle.vortex_filter.specs.Checking.{Demand, Fits, HoldsStrings, HoldsText, IsOrderedFor, beginning, comparing, matching, nothing}
 use Rattle.vortex_filter.specs.Coercing.{IsCoercible, lacks}
 use Rattle.vortex_filter.specs.Extensions.{reinterprets}
 
@@ -25,11 +25,12 @@ abbrev pub AsksAmong : TypeTree → List Scalar → Type 0
 AsksAmong t [] = Unit {0}
 AsksAmong t (x ∷ xs) = IsCopied t x ⊎ (IsCoercible t x × AsksAmong t xs)
 
--- the same of the literals of a demand; what may begin with a literal is a string, or bytes
+-- the same of the literals of a demand, where what may begin with a literal is a string, or bytes; or a pattern is copied
 abbrev pub AsksIn : TypeTree → Demand Scalar → Type 0
 AsksIn t nothing = ⊥
 AsksIn t (comparing xs) = AsksAmong t xs
 AsksIn t (beginning p) = HoldsStrings t × AsksAmong t (p ∷ [])
+AsksIn t matching = HoldsText t
 
 -- ---- filters
 
@@ -49,6 +50,7 @@ tasks_step (Filter-F.IsNull column) = test_task column nothing ∷ []
 tasks_step (Filter-F.In column literals) = list_task column literals.items ∷ []
 tasks_step (Filter-F.Between column lower upper) = test_task column (comparing (lower ∷ upper ∷ [])) ∷ []
 tasks_step (Filter-F.StartsWith column prefix) = test_task column (beginning prefix) ∷ []
+tasks_step (Filter-F.Like column pattern case) = test_task column matching ∷ []
 tasks_step (Filter-F.And f g) = f.value ++ (g.value ++ box_task ∷ [])
 tasks_step (Filter-F.Or f g) = f.value ++ (g.value ++ box_task ∷ [])
 tasks_step (Filter-F.Not f) = f.value ++ box_task ∷ []

@@ -12,7 +12,7 @@ use Rattle.vortex_value.specs.Values.Scalars.{IsValid, scalar_content, scalar_ty
 use Rattle.vortex_value.specs.declared.scalars.Scalar.{Scalar}
 use Rattle.vortex_cells.specs.Cells.{Cell, cell_of}
 use Rattle.vortex_filter.specs.Extensions.{reinterprets}
-use Rattle.vortex_filter.specs.Formula.{Formula, constant, comparison, null_test, membership, range, prefix_test, both, either, negation}
+use Rattle.vortex_filter.specs.Formula.{Formula, constant, comparison, null_test, membership, range, prefix_test, pattern_test, both, either, negation}
 use Rattle.vortex_filter.specs.Positions.{PositionTree, exactly, lacking, comparison_of, member_among, range_of}
 
 -- ---- one literal
@@ -62,6 +62,7 @@ coerced columns (null_test k) = null_test k
 coerced columns (membership k xs) = by_column (slice_get columns k) (membership k xs) (λ t. member_among k (map (position_in t) xs))
 coerced columns (range k x y) = by_column (slice_get columns k) (range k x y) (λ t. range_of k (position_in t x) (position_in t y))
 coerced columns (prefix_test k p) = by_column (slice_get columns k) (prefix_test k p) (λ t. prefix_test k (coerced_cell t p))
+coerced columns (pattern_test k case parts) = pattern_test k case parts
 coerced columns (both f g) = both (coerced columns f) (coerced columns g)
 coerced columns (either f g) = either (coerced columns f) (coerced columns g)
 coerced columns (negation f) = negation (coerced columns f)

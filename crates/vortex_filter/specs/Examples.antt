@@ -1,6 +1,10 @@
 -- Worked cases of the definitions, each a theorem.
-use Rattle.std.specs.Prelude.{◌≡◌, ℕ, pos, false, true, List, [], ◌∷◌, refl}
+use Rattle.std.specs.Prelude.{◌≡◌, ⊤, ℕ, pos, false, true, List, [], ◌∷◌, codes, map, refl}
+use Rattle.std.specs.Char.{encode_utf8}
+use Rattle.std.specs.Str.{chars, is_utf8}
 use Rattle.std.specs.declared.cmp.Ordering.TheVariants.{Equal}
+use Rattle.like_patterns.specs.declared.case.Case.TheVariants.{Sensitive, Insensitive}
+use Rattle.like_patterns.specs.Patterns.{Part, any_character, any_string, literal, matches}
 use Rattle.vortex_dtype.specs.TypeTree.{binary_type, integer_type, utf8_type}
 use Rattle.vortex_dtype.specs.declared.nullability.Nullability.TheVariants.{NonNullable, Nullable}
 use Rattle.vortex_dtype.specs.declared.ptype.PType.TheVariants.{I32}
@@ -8,7 +12,7 @@ use Rattle.vortex_value.specs.Values.Content.{null, string, text, whole}
 use Rattle.vortex_cells.specs.Cells.{Cell}
 use Rattle.vortex_filter.specs.declared.operator.CompareOperator.TheVariants.{Eq, NotEq, Gt, Gte, Lt, Lte}
 use Rattle.vortex_filter.specs.declared.truth.Truth.TheVariants.{False, Unknown, True}
-use Rattle.vortex_filter.specs.Formula.{comparison, membership, negation, null_test, prefix_test, range, truth}
+use Rattle.vortex_filter.specs.Formula.{comparison, is_match, membership, negation, null_test, pattern_test, prefix_test, range, truth}
 use Rattle.vortex_filter.specs.Operators.{holds}
 use Rattle.vortex_filter.specs.Truths.{truth_and, truth_not, truth_or}
 
@@ -125,3 +129,81 @@ too_short_to_begin = refl
 -- bytes do not begin with a string
 bytes_and_string : truth (prefix_test 0 (word [])) (bytes [] ∷ []) ≡ Unknown
 bytes_and_string = refl
+
+-- ---- patterns
+
+-- what the proofs compute by
+unfoldable on_strings : ⊤
+unfolding chars encode_utf8 is_utf8 matches
+on_strings = tt
+
+abbrev no_word : Cell
+no_word = record { typed = utf8_type Nullable; content = null }
+
+-- 'a%c', 'a_c', '%c' and '%b%'
+abbrev a_any_c : List Part
+a_any_c = literal 97 ∷ any_string ∷ literal 99 ∷ []
+
+abbrev a_one_c : List Part
+a_one_c = literal 97 ∷ any_character ∷ literal 99 ∷ []
+
+abbrev any_c : List Part
+any_c = any_string ∷ literal 99 ∷ []
+
+abbrev some_b : List Part
+some_b = any_string ∷ literal 98 ∷ any_string ∷ []
+
+-- "aéc", whose é has two bytes
+abbrev a_acute_c : List ℕ
+a_acute_c = 97 ∷ 195 ∷ 169 ∷ 99 ∷ []
+
+like_any_string : truth (pattern_test 0 Sensitive a_any_c) (word (codes "abc") ∷ []) ≡ True
+unfolding on_strings
+like_any_string = refl
+
+like_one_character : truth (pattern_test 0 Sensitive a_one_c) (word a_acute_c ∷ []) ≡ True
+unfolding on_strings
+like_one_character = refl
+
+like_otherwise : truth (pattern_test 0 Sensitive a_one_c) (word (codes "abbc") ∷ []) ≡ False
+unfolding on_strings
+like_otherwise = refl
+
+-- '%!%' with the escape '!': what ends with a '%'
+like_escaped : truth (pattern_test 0 Sensitive (any_string ∷ literal 37 ∷ [])) (word (codes "50%") ∷ []) ≡ True
+unfolding on_strings
+like_escaped = refl
+
+-- a null is not known to match, nor not to
+null_like : truth (negation (pattern_test 0 Sensitive any_c)) (no_word ∷ []) ≡ Unknown
+null_like = refl
+
+past_the_end_like : truth (pattern_test 1 Sensitive any_c) [] ≡ Unknown
+past_the_end_like = refl
+
+-- nor bytes, which are no string
+bytes_like : truth (pattern_test 0 Sensitive any_c) (bytes (codes "abc") ∷ []) ≡ Unknown
+bytes_like = refl
+
+-- without case "ABC" matches 'a%c'; É is no letter of ASCII, so its case counts
+like_without_case : truth (pattern_test 0 Insensitive a_any_c) (word (codes "ABC") ∷ []) ≡ True
+unfolding on_strings
+like_without_case = refl
+
+like_with_case : truth (pattern_test 0 Sensitive a_any_c) (word (codes "ABC") ∷ []) ≡ False
+unfolding on_strings
+like_with_case = refl
+
+acute_without_case : truth (pattern_test 0 Insensitive (literal 201 ∷ any_string ∷ [])) (word (195 ∷ 169 ∷ []) ∷ []) ≡ False
+unfolding on_strings
+acute_without_case = refl
+
+-- what is no UTF-8 matches nothing
+no_utf8_like : truth (pattern_test 0 Sensitive (any_string ∷ [])) (word (255 ∷ []) ∷ []) ≡ False
+unfolding on_strings
+no_utf8_like = refl
+
+-- the rows of "abc", a null, "ac" and "b" that match '%b%'
+matching_rows : map (is_match (pattern_test 0 Sensitive some_b)) ((word (codes "abc") ∷ []) ∷ (no_word ∷ []) ∷ (word (codes "ac") ∷ []) ∷ (word (codes "b") ∷ []) ∷ []) ≡ true ∷ false ∷ false ∷ true ∷ []
+unfolding on_strings
+matching_rows = refl

@@ -8,7 +8,7 @@ use Rattle.vortex_value.specs.declared.scalars.Scalar.{Scalar}
 use Rattle.vortex_filter.specs.declared.error.FilterError.{FilterError}
 use Rattle.vortex_filter.specs.declared.filter.Filter.{Filter, fold-Filter}
 use Rattle.vortex_filter.specs.declared.filter.Filter.TheOpen.{Filter-F}
-use Rattle.vortex_filter.specs.Checking.{Test, asks, beginning, comparing, nothing}
+use Rattle.vortex_filter.specs.Checking.{Test, asks, beginning, comparing, matching, nothing}
 use Rattle.vortex_filter.specs.Formula.{formula}
 
 -- the literals of a variant, from those of its parts
@@ -19,6 +19,7 @@ literals_step (Filter-F.IsNull column) = []
 literals_step (Filter-F.In column literals) = literals.items
 literals_step (Filter-F.Between column lower upper) = lower ∷ upper ∷ []
 literals_step (Filter-F.StartsWith column prefix) = prefix ∷ []
+literals_step (Filter-F.Like column pattern case) = []
 literals_step (Filter-F.And f g) = f.value ++ g.value
 literals_step (Filter-F.Or f g) = f.value ++ g.value
 literals_step (Filter-F.Not f) = f.value
@@ -35,6 +36,7 @@ literal_tests_step (Filter-F.IsNull column) = asks column nothing
 literal_tests_step (Filter-F.In column literals) = asks column (comparing literals.items)
 literal_tests_step (Filter-F.Between column lower upper) = asks column (comparing (lower ∷ upper ∷ []))
 literal_tests_step (Filter-F.StartsWith column prefix) = asks column (beginning prefix)
+literal_tests_step (Filter-F.Like column pattern case) = asks column matching
 literal_tests_step (Filter-F.And f g) = f.value ++ g.value
 literal_tests_step (Filter-F.Or f g) = f.value ++ g.value
 literal_tests_step (Filter-F.Not f) = f.value

@@ -3,6 +3,8 @@ use Rattle.std.specs.Prelude.{ℕ, ◌||◌, Bool, List, fold, map, slice_get, O
 use Rattle.std.specs.Borrow.{Bor}
 use Rattle.std.specs.Option.{option_copied}
 use Rattle.std.specs.declared.cmp.Ordering.{Ordering}
+use Rattle.like_patterns.specs.declared.case.Case.{Case}
+use Rattle.like_patterns.specs.Patterns.{Part}
 use Rattle.vortex_value.specs.declared.scalars.Scalar.{Scalar}
 use Rattle.vortex_cells.specs.Cells.{Cell, cell_of, cell_or_null, cell_order, is_null_cell}
 use Rattle.vortex_filter.specs.declared.filter.Filter.{Filter, fold-Filter}
@@ -12,6 +14,7 @@ use Rattle.vortex_filter.specs.declared.operator.CompareOperator.TheVariants.{Eq
 use Rattle.vortex_filter.specs.declared.truth.Truth.{Truth}
 use Rattle.vortex_filter.specs.declared.truth.Truth.TheVariants.{False, Unknown}
 use Rattle.vortex_filter.specs.Operators.{holds}
+use Rattle.vortex_filter.specs.PatternTests.{pattern_truth}
 use Rattle.vortex_filter.specs.Prefixes.{prefix_truth}
 use Rattle.vortex_filter.specs.Truths.{is_true, truth_and, truth_not, truth_of, truth_or}
 
@@ -23,6 +26,7 @@ pub data Formula : Type 0 where
   membership : ℕ → List Cell → Formula
   range : ℕ → Cell → Cell → Formula
   prefix_test : ℕ → Cell → Formula
+  pattern_test : ℕ → Case → List Part → Formula
   both : Formula → Formula → Formula
   either : Formula → Formula → Formula
   negation : Formula → Formula
@@ -34,6 +38,7 @@ formula_step (Filter-F.IsNull column) = null_test column
 formula_step (Filter-F.In column literals) = membership column (map cell_of literals.items)
 formula_step (Filter-F.Between column lower upper) = range column (cell_of lower) (cell_of upper)
 formula_step (Filter-F.StartsWith column prefix) = prefix_test column (cell_of prefix)
+formula_step (Filter-F.Like column pattern case) = pattern_test column case pattern
 formula_step (Filter-F.And f g) = both f.value g.value
 formula_step (Filter-F.Or f g) = either f.value g.value
 formula_step (Filter-F.Not f) = negation f.value
@@ -81,6 +86,7 @@ truth (null_test k) row = null_truth (cell_at row k)
 truth (membership k literals) row = member_truth (cell_at row k) literals
 truth (range k lower upper) row = range_truth (cell_at row k) lower upper
 truth (prefix_test k prefix) row = prefix_truth (cell_at row k) prefix
+truth (pattern_test k case parts) row = pattern_truth case parts (cell_at row k)
 truth (both p q) row = truth_and (truth p row) (truth q row)
 truth (either p q) row = truth_or (truth p row) (truth q row)
 truth (negation p) row = truth_not (truth p row)

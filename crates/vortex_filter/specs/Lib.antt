@@ -15,6 +15,7 @@ pub mod LogicalValues
 pub mod Makes
 pub mod Named
 pub mod Operators
+pub mod PatternTests
 pub mod Positions
 pub mod Prefixes
 pub mod Rows

@@ -1,7 +1,7 @@
 -- The columns that a formula names: its truth depends on no other.
 use Rattle.std.specs.Prelude.{◌≡◌, ◌⊎◌, ◌↔◌, ℕ, ◌<◌, true, false, Bool, List, length, slice_index_or}
 use Rattle.vortex_cells.specs.Cells.{Cell}
-use Rattle.vortex_filter.specs.Formula.{Formula, both, cell_at, comparison, constant, either, membership, negation, null_test, prefix_test, range, truth}
+use Rattle.vortex_filter.specs.Formula.{Formula, both, cell_at, comparison, constant, either, membership, negation, null_test, pattern_test, prefix_test, range, truth}
 
 -- the formula has a test of the column at this place
 abbrev pub IsNamed : Formula → ℕ → Type 0
@@ -11,6 +11,7 @@ IsNamed (null_test j) k = j ≡ k
 IsNamed (membership j literals) k = j ≡ k
 IsNamed (range j lower upper) k = j ≡ k
 IsNamed (prefix_test j prefix) k = j ≡ k
+IsNamed (pattern_test j case parts) k = j ≡ k
 IsNamed (both p q) k = IsNamed p k ⊎ IsNamed q k
 IsNamed (either p q) k = IsNamed p k ⊎ IsNamed q k
 IsNamed (negation p) k = IsNamed p k

@@ -8,7 +8,7 @@ pub use Rattle.vortex_dtype.specs.TypeTree.{as_nullable}
 pub use Rattle.vortex_filter.specs.Asked.{demand_of}
 pub use Rattle.vortex_filter.specs.CheckSteps.{answer_behind, answer_of_both, behind, checked, checked_test, holds_strings, lacks_order, suits}
 pub use Rattle.vortex_filter.specs.Checking.{FitsColumns, IsOfType, RefusesFirst, tests}
-pub use Rattle.vortex_filter.specs.Formula.{both, cell_at, compare_truth, comparison, either, formula, is_match, lent_cell, member_truth, membership, negation, null_test, null_truth, prefix_test, range, range_truth, truth}
+pub use Rattle.vortex_filter.specs.Formula.{both, cell_at, compare_truth, comparison, either, formula, is_match, lent_cell, member_truth, membership, negation, null_test, null_truth, pattern_test, prefix_test, range, range_truth, truth}
 pub use Rattle.vortex_filter.specs.Operators.{holds}
 pub use Rattle.vortex_filter.specs.Prefixes.{cell_prefix_order, prefix_truth}
 pub use Rattle.vortex_filter.specs.Makes.{IsBare}

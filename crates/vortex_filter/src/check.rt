@@ -15,7 +15,8 @@ use vortex_value::Scalar;
 impl Filter {
     /// Whether each test of the filter fits the type of its column. The column has to be there. No
     /// variant may stand in its type, at any depth, but for `IsNull`. Each literal is of the same
-    /// type up to nullability, and a prefix is sought in strings or bytes alone.
+    /// type up to nullability, a prefix is sought in strings or bytes alone, and a pattern is
+    /// compared with strings alone.
     ///
     /// It is refused for the first test that does not fit, in reading order: `NoColumn`, else
     /// `HasVariant`, else `TypesDiffer`, with the number of the test and its column. It takes no
@@ -52,6 +53,7 @@ fn check_tests(filter: &Filter, columns: &[DType]) -> Result<(), FilterError>
         Filter::StartsWith { column, prefix } => {
             check_test(*column, Asked::Beginning(prefix), columns)
         }
+        Filter::Like { column, .. } => check_test(*column, Asked::Matching, columns),
         Filter::And(left, right) => {
             let front = check_tests(left, columns);
             both_answers(left, front, check_tests(right, columns))
@@ -77,6 +79,8 @@ pub(crate) enum Asked<'a> {
     Ends(&'a Scalar, &'a Scalar),
     /// To hold what may begin with the literal.
     Beginning(&'a Scalar),
+    /// To hold what may match a pattern.
+    Matching,
 }
 
 /// Checks one test, as the first of its filter.
@@ -122,7 +126,8 @@ pub(crate) fn lacks_order(asked: Asked<'_>, dtype: &DType) -> bool
     }
 }
 
-/// Whether the literals are of the type, and what may begin with one is a string, or bytes.
+/// Whether the literals are of the type, what may begin with one is a string, or bytes, and what may
+/// match a pattern a string.
 fn suits(asked: Asked<'_>, dtype: &DType) -> bool
     ensures { result ≡ suits (demand_of asked.entry) (type_of dtype.now) }
 {
@@ -132,6 +137,7 @@ fn suits(asked: Asked<'_>, dtype: &DType) -> bool
         Asked::Literals(literals) => are_of_type(literals, dtype),
         Asked::Ends(lower, upper) => is_of_type(lower, dtype) && is_of_type(upper, dtype),
         Asked::Beginning(prefix) => holds_strings(dtype) && is_of_type(prefix, dtype),
+        Asked::Matching => dtype.is_utf8(),
     }
 }
 

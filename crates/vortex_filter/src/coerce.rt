@@ -6,24 +6,25 @@ ghost use Rattle.vortex_filter.specs.CoerceMemory.{tasks_of, test_task};
 ghost use Rattle.vortex_filter.specs.Coerces.{Coerces, CoercesLiteral, CoercesLiterals, CoercesTest, GivesOrdered};
 ghost use Rattle.vortex_filter.specs.Coerces.{integer_in, lacking_of, lacking_order, number_in, number_lacking};
 ghost use Rattle.vortex_filter.specs.Coercing.{IsCoercible, coerced, coerced_cell, lacks, position_in};
-ghost use Rattle.vortex_filter.specs.Checking.{AllFit, asks, beginning, comparing, nothing};
+ghost use Rattle.vortex_filter.specs.Checking.{AllFit, asks, beginning, comparing, matching, nothing};
 ghost use Rattle.vortex_filter.specs.Extensions.{reinterprets};
 ghost use Rattle.vortex_filter.specs.FilterLiterals.{AreValid, literal_tests, literals_of};
 ghost use Rattle.vortex_filter.specs.Positions.{comparison_of, member_among, range_of};
 ghost use Rattle.vortex_filter.specs.Rows.{IsRowOf, content_truth};
 ghost use Rattle.vortex_filter.specs.Words.{Cell, FitsColumns, IsValid, OutOfMemory, RefusesFirst, cell_of, comparison};
-ghost use Rattle.vortex_filter.specs.Words.{formula, membership, null_test, prefix_test, range, same_type};
+ghost use Rattle.vortex_filter.specs.Words.{formula, membership, null_test, pattern_test, prefix_test, range, same_type};
 ghost use Rattle.vortex_filter.specs.Words.{scalar_content, scalar_type, truth, type_of};
 
 use crate::building::{conjoin, disjoin, negate};
 use crate::check::{behind, holds_strings, is_of_type, type_at};
-use crate::copies::copy_scalar;
+use crate::copies::{copy_pattern_test, copy_scalar};
 use crate::error::FilterError;
 use crate::extensions::reinterprets;
 use crate::filter::Filter;
 use crate::literals::{Position, nullable};
 use crate::operator::CompareOperator;
 use crate::positions::{comparison_of, member_of, prefix_of, range_of, with_position};
+use like_patterns::{Case, Pattern};
 use std::alloc::Global;
 use std::cmp::Ordering;
 use vortex_cells::has_variant;
@@ -99,6 +100,11 @@ fn coerce_filter(alloc: Global, filter: &Filter, columns: &[DType]) -> Result<Fi
             upper,
         } => coerce_range(alloc, *column, lower, upper, columns),
         Filter::StartsWith { column, prefix } => coerce_prefix(alloc, *column, prefix, columns),
+        Filter::Like {
+            column,
+            pattern,
+            case,
+        } => coerce_pattern_test(alloc, *column, pattern, *case, columns),
         Filter::And(left, right) => {
             let first = coerce_filter(alloc, left, columns);
             let second = behind(left, coerce_filter(alloc, right, columns));
@@ -211,6 +217,25 @@ fn coerce_prefix(
     }
 }
 
+#[tactic(auto, using(crate::proofs::CoerceSteps::columns, crate::proofs::CoerceMemorySteps::refusals))]
+#[inline(never)]
+fn coerce_pattern_test(
+    alloc: Global,
+    column: usize,
+    pattern: &Pattern,
+    case: Case,
+    columns: &[DType],
+) -> Result<Filter, FilterError>
+    ensures made { Coerces (map type_of columns.now)
+        (pattern_test column case pattern.now) (asks column matching) [] result }
+    ensures asked { RunsOutOnly (map type_of columns.now) (test_task column matching ∷ []) result }
+{
+    match ordered_type(column, columns) {
+        Ok(dtype) => pattern_test_in(alloc, dtype, column, pattern, case),
+        Err(cause) => Err(cause),
+    }
+}
+
 /// The type of a column whose values have an order.
 #[tactic(auto, using(crate::proofs::CoerceSteps::variants))]
 fn ordered_type(column: usize, columns: &[DType]) -> Result<&DType, FilterError>
@@ -319,6 +344,24 @@ fn prefix_in(
         };
     }
     Err(FilterError::TypesDiffer { test: 0, column })
+}
+
+fn pattern_test_in(
+    alloc: Global,
+    dtype: &DType,
+    column: usize,
+    pattern: &Pattern,
+    case: Case,
+) -> Result<Filter, FilterError>
+    ensures made { CoercesTest (type_of dtype.now) matching
+        (pattern_test column case pattern.now) [] column result }
+    ensures asked { IfErr result (λ e. e ≡ OutOfMemory → AsksIn (type_of dtype.now) matching) }
+{
+    if dtype.is_utf8() {
+        copy_pattern_test(alloc, column, pattern, case)
+    } else {
+        Err(FilterError::TypesDiffer { test: 0, column })
+    }
 }
 
 // ---- literals

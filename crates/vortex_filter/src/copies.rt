@@ -3,13 +3,14 @@
 ghost use Rattle.std.specs.Prelude.{◌≡◌, ◌∷◌, [], IfErr, IfOk, MatchResult, map};
 ghost use Rattle.vortex_filter.specs.FilterLiterals.{AreValid, MakesCopies, exactly_of, literals_of};
 ghost use Rattle.vortex_filter.specs.Makes.{Makes, MakesUnlessBare};
-ghost use Rattle.vortex_filter.specs.Words.{IsBare, OutOfMemory, cell_of, comparison, formula, membership, prefix_test};
-ghost use Rattle.vortex_filter.specs.Words.{range};
+ghost use Rattle.vortex_filter.specs.Words.{IsBare, OutOfMemory, cell_of, comparison, formula, membership, pattern_test};
+ghost use Rattle.vortex_filter.specs.Words.{prefix_test, range};
 
 use crate::building::{conjoin, disjoin, negate};
 use crate::error::FilterError;
 use crate::filter::Filter;
 use crate::operator::CompareOperator;
+use like_patterns::{Case, Pattern};
 use std::alloc::Global;
 use vortex_value::Scalar;
 
@@ -51,6 +52,11 @@ fn copy(alloc: Global, filter: &Filter) -> Result<Filter, FilterError>
             upper,
         } => copy_range(alloc, *column, lower, upper),
         Filter::StartsWith { column, prefix } => copy_prefix(alloc, *column, prefix),
+        Filter::Like {
+            column,
+            pattern,
+            case,
+        } => copy_pattern_test(alloc, *column, pattern, *case),
         Filter::And(left, right) => {
             let first = copy(alloc, left);
             conjoin(alloc, first, copy(alloc, right))
@@ -128,6 +134,25 @@ fn copy_prefix(alloc: Global, column: usize, prefix: &Scalar) -> Result<Filter, 
 {
     let prefix = copy_scalar(alloc, prefix)?;
     Ok(Filter::StartsWith { column, prefix })
+}
+
+#[tactic(auto, using(crate::proofs::Steps::shown, crate::proofs::LiteralSteps::literals))]
+#[inline(never)]
+pub(crate) fn copy_pattern_test(
+    alloc: Global,
+    column: usize,
+    pattern: &Pattern,
+    case: Case,
+) -> Result<Filter, FilterError>
+    ensures made { Makes (pattern_test column case pattern.now) result }
+    ensures exactly { MakesCopies [] result }
+{
+    let pattern = pattern.clone(alloc)?;
+    Ok(Filter::Like {
+        column,
+        pattern,
+        case,
+    })
 }
 
 /// A copy of a scalar.

@@ -22,7 +22,8 @@ pub enum FilterError {
     #[error("a variant stands in the type of column {column}")]
     HasVariant { test: usize, column: usize },
     /// The column and a literal are of types that are not the same up to nullability, or a prefix is
-    /// sought in a column that holds neither strings nor bytes.
+    /// sought in a column that holds neither strings nor bytes, or a pattern in one that holds no
+    /// strings.
     #[error("a literal of another type than column {column}")]
     TypesDiffer { test: usize, column: usize },
 }

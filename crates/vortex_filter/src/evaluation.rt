@@ -6,6 +6,7 @@ ghost use Rattle.vortex_filter.specs.Words.{lent_cell, member_truth, null_truth,
 
 use crate::filter::Filter;
 use crate::operator::CompareOperator;
+use crate::pattern::truth_of_pattern;
 use crate::prefix::truth_of_prefix;
 use crate::truth::Truth;
 use vortex_cells::compare_scalars;
@@ -33,6 +34,11 @@ impl Filter {
                 upper,
             } => truth_of_range(cell_in(row, *column), lower, upper),
             Filter::StartsWith { column, prefix } => truth_of_prefix(cell_in(row, *column), prefix),
+            Filter::Like {
+                column,
+                pattern,
+                case,
+            } => truth_of_pattern(cell_in(row, *column), pattern, *case),
             Filter::And(left, right) => match left.truth(row) {
                 Truth::False => Truth::False,
                 truth => truth.and(right.truth(row)),

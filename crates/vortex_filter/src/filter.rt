@@ -2,6 +2,7 @@
 
 use crate::operator::CompareOperator;
 use crate::truth::Truth;
+use like_patterns::{Case, Pattern};
 use vortex_value::Scalar;
 
 /// A filter over rows. It names a column by its place, and a row that ends before the column has a
@@ -37,6 +38,12 @@ pub enum Filter {
     StartsWith {
         column: usize,
         prefix: Scalar,
+    },
+    /// Whether the cell, a string, matches the pattern. Unknown if it is null, or no string.
+    Like {
+        column: usize,
+        pattern: Pattern,
+        case: Case,
     },
     /// False if one of the two is, else Unknown if one is.
     And(Box<Filter>, Box<Filter>),

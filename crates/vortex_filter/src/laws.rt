@@ -6,8 +6,10 @@
 ghost use Rattle.vortex_filter.specs.FilterLiterals.{FormulasSayLiterals};
 ghost use Rattle.vortex_filter.specs.FitLaws.{FittingComparesContents, UnknownForNulls, UnknownWithoutOrder};
 ghost use Rattle.vortex_filter.specs.Named.{NamedColumnsDecide};
+ghost use Rattle.vortex_filter.specs.PatternTests.{PatternsBegin, PatternsKnow, StringsMatch};
 ghost use Rattle.vortex_filter.specs.Positions.{ComparisonsStand, NullsAreUnknown};
 
+use like_patterns::laws::matches_begin_with_prefix;
 use vortex_dtype::laws::nullable_is_the_same;
 use vortex_value::laws::one_value;
 
@@ -41,6 +43,16 @@ pub fn comparisons_stand()
     ensures values { ComparisonsStand }
     ensures nulls { NullsAreUnknown }
 {}
+
+/// A string matches a pattern as its characters do. A test for a pattern is Unknown just where one for
+/// a prefix is, and where it is True, its string begins as the pattern does.
+pub fn pattern_tests_decide()
+    ensures strings { StringsMatch }
+    ensures unknown { PatternsKnow }
+    ensures begin { PatternsBegin }
+{
+    matches_begin_with_prefix();
+}
 
 /// Rows that agree in the columns that a filter names have the same truth of it.
 pub fn named_columns_decide()

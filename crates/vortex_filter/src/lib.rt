@@ -16,6 +16,7 @@ mod literals;
 mod logical_values;
 mod naming;
 mod operator;
+mod pattern;
 mod positions;
 mod prefix;
 mod truth;

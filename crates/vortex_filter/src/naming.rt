@@ -19,6 +19,7 @@ impl Filter {
             Filter::In { column, .. } => mark_column(*column, flags),
             Filter::Between { column, .. } => mark_column(*column, flags),
             Filter::StartsWith { column, .. } => mark_column(*column, flags),
+            Filter::Like { column, .. } => mark_column(*column, flags),
             Filter::And(left, right) => {
                 left.mark_columns(flags);
                 right.mark_columns(flags);

@@ -1,5 +1,4 @@
 -- By the logical type of the column, if it has one.
-use Rattle.std.proofs.Common.{None, Some}
 use Rattle.vortex_dtype.specs.TypeOf.{type_of}
 use Rattle.logical_types.specs.Shapes.{Shape, shape_of}
 use Rattle.vortex_filter.specs.Literals.{text_of_shape}
