@@ -4,6 +4,7 @@ pub mod Cells
 pub mod Exactness
 pub mod LeavesSteps
 pub mod Occurrence
+pub mod PatternLaws
 pub mod Plain
 pub mod PrefixExact
 pub mod PrefixLaws

@@ -21,7 +21,7 @@ use Rattle.filter_pruning.proofs.Tests.{and_true, none_or_some, not_both, or_lef
 
 -- ---- lists
 
-up_greater : {A : Type 0} → (Greater ≡ Less) ⊎ (Greater ≡ Equal) → A
+pub up_greater : {A : Type 0} → (Greater ≡ Less) ⊎ (Greater ≡ Equal) → A
 up_greater (inl h) = absurd (false≢true (ap is_lt h))
 up_greater (inr h) = absurd (false≢true (ap is_eq h))
 
@@ -31,7 +31,7 @@ then_up Equal r s f h = f h
 then_up Greater r s f h = up_greater h
 
 -- the beginnings stand as the lists do, or are equal
-beginnings_up : (n : ℕ) (xs ys : List ℕ) → (slice_cmp nat_cmp xs ys ≡ Less) ⊎ (slice_cmp nat_cmp xs ys ≡ Equal)
+pub beginnings_up : (n : ℕ) (xs ys : List ℕ) → (slice_cmp nat_cmp xs ys ≡ Less) ⊎ (slice_cmp nat_cmp xs ys ≡ Equal)
     → (slice_cmp nat_cmp (take n xs) (take n ys) ≡ Less) ⊎ (slice_cmp nat_cmp (take n xs) (take n ys) ≡ Equal)
 beginnings_up zero xs ys h = inr refl
 beginnings_up (suc n) [] [] h = inr refl
@@ -42,7 +42,7 @@ beginnings_up (suc n) (x ∷ xs) (y ∷ ys) h = then_up (nat_cmp x y) (slice_cmp
 equal_goes_on : (xs ys zs : List ℕ) → slice_cmp nat_cmp xs ys ≡ Equal → slice_cmp nat_cmp xs zs ≡ slice_cmp nat_cmp ys zs
 equal_goes_on xs ys zs h = nat_list_cmp_total.congr xs ys zs h
 
-reverse_of_up : (o r : Ordering) → r ≡ ordering_reverse o → (o ≡ Less) ⊎ (o ≡ Equal) → (r ≡ Greater) ⊎ (r ≡ Equal)
+pub reverse_of_up : (o r : Ordering) → r ≡ ordering_reverse o → (o ≡ Less) ⊎ (o ≡ Equal) → (r ≡ Greater) ⊎ (r ≡ Equal)
 reverse_of_up o r e (inl h) = inl (e ∙ ap ordering_reverse h)
 reverse_of_up o r e (inr h) = inr (e ∙ ap ordering_reverse h)
 
@@ -131,7 +131,7 @@ prefix_reaches b x p q h k =
     typed_whole (same_type b.typed p.typed) (prefix_order b.content p.content) (types_reach b.typed x.typed p.typed hx.0 hp.0)
     (kind_reaches b.content x.content p.content q hx.1 hp.1)
 
-some_same : (a b : Ordering) → Some a ≡ Some b → a ≡ b
+pub some_same : (a b : Ordering) → Some a ≡ Some b → a ≡ b
 some_same a b e = cc
 
 -- ---- what a bound says of a value
@@ -149,11 +149,11 @@ record SaidByUpper (a : Ordering) (o : Option Ordering) : Type 0 where
   true_then : at ≡ Equal → is_gt a ≡ false
   equal_then : a ≡ Equal → (at ≡ Greater) ⊎ (at ≡ Equal)
 
-not_lt : (a : Ordering) → (a ≡ Greater) ⊎ (a ≡ Equal) → is_lt a ≡ false
+pub not_lt : (a : Ordering) → (a ≡ Greater) ⊎ (a ≡ Equal) → is_lt a ≡ false
 not_lt a (inl h) = ap is_lt h
 not_lt a (inr h) = ap is_lt h
 
-not_gt : (a : Ordering) → (a ≡ Less) ⊎ (a ≡ Equal) → is_gt a ≡ false
+pub not_gt : (a : Ordering) → (a ≡ Less) ⊎ (a ≡ Equal) → is_gt a ≡ false
 not_gt a (inl h) = ap is_gt h
 not_gt a (inr h) = ap is_gt h
 
@@ -193,7 +193,7 @@ module _ (law : IsOrder cell_order) where
 
 -- ---- outcomes
 
-none_is_some : {A : Type 0} (o : Ordering) → None ≡ Some o → A
+pub none_is_some : {A : Type 0} (o : Ordering) → None ≡ Some o → A
 none_is_some o e = absurd (false≢true (ap is_some e))
 
 less_not_down : {A : Type 0} (o : Ordering) → Some Less ≡ Some o → (o ≡ Greater) ⊎ (o ≡ Equal) → A

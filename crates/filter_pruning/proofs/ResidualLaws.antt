@@ -6,7 +6,7 @@ use Rattle.vortex_statistics.specs.Statistics.{Known}
 use Rattle.filter_pruning.specs.declared.outcomes.Outcomes.{Outcomes}
 use Rattle.vortex_filter.specs.declared.truth.Truth.{Truth}
 use Rattle.vortex_filter.specs.declared.truth.Truth.TheVariants.{False, Unknown, True}
-use Rattle.vortex_filter.specs.Formula.{Formula, constant, comparison, null_test, membership, range, prefix_test, both, either, negation, truth}
+use Rattle.vortex_filter.specs.Formula.{Formula, constant, comparison, null_test, membership, range, prefix_test, pattern_test, both, either, negation, truth}
 use Rattle.filter_pruning.specs.OutcomeSets.{allows, only}
 use Rattle.filter_pruning.specs.Outcomes.{outcomes}
 use Rattle.filter_pruning.specs.Residual.{conjunction, disjunction, is_constant, reduced, residual, settled_as, size, sole, sole_of}
@@ -94,6 +94,7 @@ residual_truth ss row c (null_test k) = settled_truth (outcomes (null_test k) ss
 residual_truth ss row c (membership k xs) = settled_truth (outcomes (membership k xs) ss) (membership k xs) row _ (c (membership k xs)) refl
 residual_truth ss row c (range k x y) = settled_truth (outcomes (range k x y) ss) (range k x y) row _ (c (range k x y)) refl
 residual_truth ss row c (prefix_test k p) = settled_truth (outcomes (prefix_test k p) ss) (prefix_test k p) row _ (c (prefix_test k p)) refl
+residual_truth ss row c (pattern_test k case parts) = settled_truth (outcomes (pattern_test k case parts) ss) (pattern_test k case parts) row _ (c (pattern_test k case parts)) refl
 residual_truth ss row c (both f g) =
     settled_truth (outcomes (both f g) ss) (conjunction (residual ss f) (residual ss g)) row _ (c (both f g))
     (conjunction_truth (residual ss f) (residual ss g) row ∙ ap₂ truth_and (residual_truth ss row c f) (residual_truth ss row c g))
@@ -112,6 +113,7 @@ size_positive (null_test k) = omega arith
 size_positive (membership k xs) = omega arith
 size_positive (range k x y) = omega arith
 size_positive (prefix_test k p) = omega arith
+size_positive (pattern_test k case parts) = omega arith
 size_positive (both f g) = omega arith
 size_positive (either f g) = omega arith
 size_positive (negation f) = omega arith
@@ -133,6 +135,7 @@ residual_size ss (null_test k) = settled_size (sole (outcomes (null_test k) ss))
 residual_size ss (membership k xs) = settled_size (sole (outcomes (membership k xs) ss)) (membership k xs) (1 + length xs) (omega arith) (omega arith)
 residual_size ss (range k x y) = settled_size (sole (outcomes (range k x y) ss)) (range k x y) 3 (omega arith) (omega arith)
 residual_size ss (prefix_test k p) = settled_size (sole (outcomes (prefix_test k p) ss)) (prefix_test k p) 2 (omega arith) (omega arith)
+residual_size ss (pattern_test k case parts) = settled_size (sole (outcomes (pattern_test k case parts) ss)) (pattern_test k case parts) 1 (omega arith) (omega arith)
 residual_size ss (both f g) =
     let h : size (residual ss f) ≤ size f = residual_size ss f in
     let k : size (residual ss g) ≤ size g = residual_size ss g in
@@ -164,6 +167,7 @@ residual_is ss (null_test k) = refl
 residual_is ss (membership k xs) = refl
 residual_is ss (range k x y) = refl
 residual_is ss (prefix_test k p) = refl
+residual_is ss (pattern_test k case parts) = refl
 residual_is ss (both f g) = refl
 residual_is ss (either f g) = refl
 residual_is ss (negation f) = refl

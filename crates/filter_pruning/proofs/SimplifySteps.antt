@@ -1,6 +1,8 @@
 -- Steps of what is left of a filter.
 use Rattle.std.proofs.Common.{◌≡◌, ◌≤◌, ℕ, Bool, true, false, cond, ◌&&◌, ◌||◌, is_none, is_some, List, Option, Some, None, option_map, Result, Ok, Err, MatchOption, MatchResult, IfErr, IfOk, IsOkAnd, refl, sym, subst, ap, ap₂, ◌∙◌}
 use Rattle.std.proofs.lemmas.Bool.{false≢true}
+use Rattle.like_patterns.specs.declared.case.Case.{Case}
+use Rattle.like_patterns.specs.Patterns.{Part}
 use Rattle.vortex_cells.specs.Cells.{Cell, cell_order}
 use Rattle.vortex_statistics.specs.Statistics.{Known}
 use Rattle.vortex_cells.proofs.CellLaws.{IsOrder}
@@ -12,7 +14,7 @@ use Rattle.filter_pruning.specs.declared.outcomes.Outcomes.{Outcomes}
 use Rattle.filter_pruning.specs.declared.residual.Residual.{Residual}
 use Rattle.vortex_filter.specs.declared.truth.Truth.{Truth}
 use Rattle.vortex_filter.specs.declared.truth.Truth.TheVariants.{False, True}
-use Rattle.vortex_filter.specs.Formula.{Formula, both, comparison, constant, either, formula, membership, negation, null_test, prefix_test, range, truth}
+use Rattle.vortex_filter.specs.Formula.{Formula, both, comparison, constant, either, formula, membership, negation, null_test, pattern_test, prefix_test, range, truth}
 use Rattle.filter_pruning.specs.Leaves.{IsResidual, is_made_false, is_made_true, settled}
 use Rattle.vortex_filter.specs.Makes.{Makes, MakesUnlessBare, OfParts, IsBare}
 use Rattle.filter_pruning.specs.OutcomeSets.{only, outcomes_and, outcomes_not, outcomes_or}
@@ -21,7 +23,7 @@ use Rattle.filter_pruning.specs.Residual.{SameOnRows, conjunction, disjunction, 
 use Rattle.vortex_filter.proofs.MakeSteps.{negation_made, unless_bare}
 use Rattle.filter_pruning.proofs.ResidualLaws.{decided, decided_only, residual_size, residual_truth, sole_only, undecided}
 use Rattle.filter_pruning.proofs.Soundness.{covered}
-use Rattle.vortex_filter.proofs.Steps.{formula-And, formula-Between, formula-Compare, formula-Constant, formula-In, formula-IsNull, formula-Not, formula-Or, formula-StartsWith}
+use Rattle.vortex_filter.proofs.Steps.{formula-And, formula-Between, formula-Compare, formula-Constant, formula-In, formula-IsNull, formula-Like, formula-Not, formula-Or, formula-StartsWith}
 
 -- ---- a True that is left out
 
@@ -127,6 +129,7 @@ no_constant t (null_test k) h = refl
 no_constant t (membership k xs) h = refl
 no_constant t (range k x y) h = refl
 no_constant t (prefix_test k p) h = refl
+no_constant t (pattern_test k case parts) h = refl
 no_constant t (both f g) h = refl
 no_constant t (either f g) h = refl
 no_constant t (negation f) h = refl
@@ -139,6 +142,7 @@ undecided_constant ss t (null_test k) e = refl
 undecided_constant ss t (membership k xs) e = refl
 undecided_constant ss t (range k x y) e = refl
 undecided_constant ss t (prefix_test k p) e = refl
+undecided_constant ss t (pattern_test k case parts) e = refl
 undecided_constant ss t (both f g) e = refl
 undecided_constant ss t (either f g) e = refl
 undecided_constant ss t (negation f) e = refl
@@ -242,6 +246,9 @@ settled_range ss k x y o e = settled_left ss (range k x y) o e (λ q. refl)
 pub settled_prefix_test : (ss : List Known) (k : ℕ) (p : Cell) (o : Outcomes) → o ≡ outcomes (prefix_test k p) ss → IsResidual ss (prefix_test k p) (settled o)
 settled_prefix_test ss k p o e = settled_left ss (prefix_test k p) o e (λ q. refl)
 
+pub settled_pattern_test : (ss : List Known) (k : ℕ) (case : Case) (parts : List Part) (o : Outcomes) → o ≡ outcomes (pattern_test k case parts) ss → IsResidual ss (pattern_test k case parts) (settled o)
+settled_pattern_test ss k case parts o e = settled_left ss (pattern_test k case parts) o e (λ q. refl)
+
 -- an And of which the left part is False, and an Or of which it is True
 pub false_left : (ss : List Known) (f g : Formula) (r : Residual) → IsResidual ss f r → r.outcomes ≡ only False → IsResidual ss (both f g) r
 false_left ss f g r h e = deciding ss f (both f g) False r h e (ap (λ o. outcomes_and o (outcomes g ss)) (sym h.possible ∙ e))
@@ -249,7 +256,7 @@ false_left ss f g r h e = deciding ss f (both f g) False r h e (ap (λ o. outcom
 pub true_left : (ss : List Known) (f g : Formula) (r : Residual) → IsResidual ss f r → r.outcomes ≡ only True → IsResidual ss (either f g) r
 true_left ss f g r h e = deciding ss f (either f g) True r h e (ap (λ o. outcomes_or o (outcomes g ss)) (sym h.possible ∙ e))
 
-pub ruleset shown = (false_left, true_left, settled_comparison, settled_constant, settled_null_test, settled_membership, settled_range, settled_prefix_test, formula-Constant, formula-Compare, formula-IsNull, formula-In, formula-Between, formula-StartsWith, formula-And, formula-Or, formula-Not)
+pub ruleset shown = (false_left, true_left, settled_comparison, settled_constant, settled_null_test, settled_membership, settled_range, settled_prefix_test, settled_pattern_test, formula-Constant, formula-Compare, formula-IsNull, formula-In, formula-Between, formula-StartsWith, formula-Like, formula-And, formula-Or, formula-Not)
 
 -- ---- the whole filter
 

@@ -11,7 +11,7 @@ use Rattle.filter_pruning.specs.declared.outcomes.Outcomes.{Outcomes}
 use Rattle.vortex_filter.specs.declared.truth.Truth.{Truth}
 use Rattle.vortex_filter.specs.declared.truth.Truth.TheVariants.{False, Unknown, True}
 use Rattle.filter_pruning.specs.Exactness.{Admits}
-use Rattle.vortex_filter.specs.Formula.{Formula, constant, comparison, null_test, membership, range, prefix_test, both, either, negation, cell_at, compare_truth, null_truth, order_truth, truth}
+use Rattle.vortex_filter.specs.Formula.{Formula, constant, comparison, null_test, membership, range, prefix_test, pattern_test, both, either, negation, cell_at, compare_truth, null_truth, order_truth, truth}
 use Rattle.vortex_filter.specs.Operators.{holds}
 use Rattle.filter_pruning.specs.Orders.{includes, may_fail, may_hold, orders}
 use Rattle.filter_pruning.specs.OutcomeSets.{allows, any, is_only_true, only, outcomes_and, outcomes_not, outcomes_or}
@@ -20,6 +20,7 @@ use Rattle.filter_pruning.specs.Pruning.{Covers, MatchesEachRow, MatchesNoRow}
 use Rattle.vortex_filter.specs.Truths.{truth_and, truth_not, truth_of, truth_or}
 use Rattle.filter_pruning.proofs.Admitting.{row_admits}
 use Rattle.filter_pruning.proofs.Bounds.{includes_order}
+use Rattle.filter_pruning.proofs.PatternLaws.{pattern_allowed}
 use Rattle.filter_pruning.proofs.PrefixLaws.{prefix_allowed}
 use Rattle.filter_pruning.proofs.Tests.{and_true, or_left, or_right}
 
@@ -157,6 +158,7 @@ module _ (law : IsOrder cell_order) where
       and_allows (compare_outcomes (slice_get statistics k) Gte lower) (compare_outcomes (slice_get statistics k) Lte upper) (compare_truth Gte (cell_at row k) lower) (compare_truth Lte (cell_at row k) upper)
       (comparison_allowed (slice_get statistics k) Gte (cell_at row k) lower (a k)) (comparison_allowed (slice_get statistics k) Lte (cell_at row k) upper (a k))
   row_covered (prefix_test k prefix) statistics row a = prefix_allowed law (slice_get statistics k) (cell_at row k) prefix (a k)
+  row_covered (pattern_test k case parts) statistics row a = pattern_allowed law case parts (slice_get statistics k) (cell_at row k) (a k)
   row_covered (both p q) statistics row a = and_allows (outcomes p statistics) (outcomes q statistics) (truth p row) (truth q row) (row_covered p statistics row a) (row_covered q statistics row a)
   row_covered (either p q) statistics row a = or_allows (outcomes p statistics) (outcomes q statistics) (truth p row) (truth q row) (row_covered p statistics row a) (row_covered q statistics row a)
   row_covered (negation p) statistics row a = not_allows (outcomes p statistics) (truth p row) (row_covered p statistics row a)

@@ -1,5 +1,7 @@
 -- Worked examples: outcomes on zones, searches, and what is left of a filter.
 use Rattle.std.specs.Prelude.{◌≡◌, ℕ, pos, false, true, List, [], ◌∷◌, Option, Some, refl}
+use Rattle.like_patterns.specs.declared.case.Case.TheVariants.{Sensitive, Insensitive}
+use Rattle.like_patterns.specs.Patterns.{any_string, literal}
 use Rattle.vortex_dtype.specs.TypeTree.{binary_type, integer_type, utf8_type}
 use Rattle.vortex_dtype.specs.declared.nullability.Nullability.TheVariants.{NonNullable, Nullable}
 use Rattle.vortex_dtype.specs.declared.ptype.PType.TheVariants.{I16, I32}
@@ -8,7 +10,7 @@ use Rattle.vortex_cells.specs.Cells.{Cell}
 use Rattle.vortex_statistics.specs.Statistics.{Known, KnownBound}
 use Rattle.vortex_filter.specs.declared.operator.CompareOperator.TheVariants.{Eq, NotEq, Gt, Gte, Lt}
 use Rattle.vortex_filter.specs.declared.truth.Truth.TheVariants.{False, Unknown, True}
-use Rattle.vortex_filter.specs.Formula.{both, comparison, constant, either, membership, negation, null_test, prefix_test, range}
+use Rattle.vortex_filter.specs.Formula.{both, comparison, constant, either, membership, negation, null_test, pattern_test, prefix_test, range}
 use Rattle.filter_pruning.specs.declared.outcomes.Outcomes.{Outcomes}
 use Rattle.filter_pruning.specs.OutcomeSets.{any, is_only_true, only, outcomes_and, outcomes_not}
 use Rattle.filter_pruning.specs.Outcomes.{outcomes}
@@ -105,6 +107,35 @@ bytes_begin_no_string = refl
 
 number_begins_nothing : outcomes (prefix_test 1 (number 1)) (two_words ∷ []) ≡ only Unknown
 number_begins_nothing = refl
+
+-- with `like`: all begin with what stands before the first wildcard, none does, or some may
+some_are_like : outcomes (pattern_test 0 Sensitive (literal 97 ∷ literal 98 ∷ any_string ∷ literal 99 ∷ [])) (two_words ∷ []) ≡ false_or_true
+unfolding lib.Utf8.encode
+some_are_like = refl
+
+none_is_like : outcomes (pattern_test 0 Sensitive (literal 98 ∷ any_string ∷ literal 99 ∷ [])) (two_words ∷ []) ≡ only False
+unfolding lib.Utf8.encode
+none_is_like = refl
+
+-- letters without a case may be like any
+some_are_ilike : outcomes (pattern_test 0 Insensitive (literal 98 ∷ any_string ∷ [])) (two_words ∷ []) ≡ false_or_true
+some_are_ilike = refl
+
+-- a pattern without a wildcard is one string: it is all that there is, or longer than the bounds allow
+abbrev one_word : Known
+one_word = record { row_count = 2; null_count = Some 0; lower = exactly (word (97 ∷ 98 ∷ [])); upper = exactly (word (97 ∷ 98 ∷ [])) }
+
+each_is_like : outcomes (pattern_test 0 Sensitive (literal 97 ∷ literal 98 ∷ [])) (one_word ∷ []) ≡ only True
+unfolding lib.Utf8.encode
+each_is_like = refl
+
+none_is_so_short : outcomes (pattern_test 0 Sensitive (literal 97 ∷ [])) (one_word ∷ []) ≡ only False
+unfolding lib.Utf8.encode
+none_is_so_short = refl
+
+-- a number is like nothing, nor fails to be
+number_is_like_nothing : outcomes (pattern_test 0 Sensitive (any_string ∷ [])) (from_two_to_five ∷ []) ≡ only Unknown
+number_is_like_nothing = refl
 
 -- what is False or Unknown, and something that is True: False or Unknown
 and_with_true : outcomes_and not_true (only True) ≡ not_true

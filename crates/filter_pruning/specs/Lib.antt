@@ -4,6 +4,7 @@ pub mod Leaves
 pub mod Orders
 pub mod OutcomeSets
 pub mod Outcomes
+pub mod PatternOutcomes
 pub mod Pruning
 pub mod Residual
 pub mod Searching

@@ -9,9 +9,10 @@ use Rattle.vortex_filter.specs.declared.operator.CompareOperator.{CompareOperato
 use Rattle.vortex_filter.specs.declared.operator.CompareOperator.TheVariants.{Eq, Gte, Lte}
 use Rattle.filter_pruning.specs.declared.outcomes.Outcomes.{Outcomes}
 use Rattle.vortex_filter.specs.declared.truth.Truth.TheVariants.{False, Unknown}
-use Rattle.vortex_filter.specs.Formula.{Formula, constant, comparison, null_test, membership, range, prefix_test, both, either, negation}
+use Rattle.vortex_filter.specs.Formula.{Formula, constant, comparison, null_test, membership, range, prefix_test, pattern_test, both, either, negation}
 use Rattle.filter_pruning.specs.Orders.{may_fail, may_hold, orders, rules_out}
 use Rattle.filter_pruning.specs.OutcomeSets.{any, only, outcomes_and, outcomes_not, outcomes_or}
+use Rattle.filter_pruning.specs.PatternOutcomes.{pattern_outcomes}
 use Rattle.vortex_filter.specs.Prefixes.{cell_prefix_order}
 
 -- ---- comparisons
@@ -92,6 +93,7 @@ outcomes (null_test k) ss = null_outcomes (slice_get ss k)
 outcomes (membership k literals) ss = member_outcomes (slice_get ss k) literals
 outcomes (range k lower upper) ss = range_outcomes (slice_get ss k) lower upper
 outcomes (prefix_test k prefix) ss = prefix_outcomes (slice_get ss k) prefix
+outcomes (pattern_test k case parts) ss = pattern_outcomes (slice_get ss k) case parts
 outcomes (both p q) ss = outcomes_and (outcomes p ss) (outcomes q ss)
 outcomes (either p q) ss = outcomes_or (outcomes p ss) (outcomes q ss)
 outcomes (negation p) ss = outcomes_not (outcomes p ss)

@@ -4,7 +4,7 @@ use Rattle.vortex_statistics.specs.Statistics.{Known}
 use Rattle.filter_pruning.specs.declared.outcomes.Outcomes.{Outcomes}
 use Rattle.vortex_filter.specs.declared.truth.Truth.{Truth}
 use Rattle.vortex_filter.specs.declared.truth.Truth.TheVariants.{False, Unknown, True}
-use Rattle.vortex_filter.specs.Formula.{Formula, constant, comparison, null_test, membership, range, prefix_test, both, either, negation, truth}
+use Rattle.vortex_filter.specs.Formula.{Formula, constant, comparison, null_test, membership, range, prefix_test, pattern_test, both, either, negation, truth}
 use Rattle.filter_pruning.specs.Outcomes.{outcomes}
 use Rattle.filter_pruning.specs.Pruning.{OnEachRow}
 
@@ -72,6 +72,7 @@ size (null_test k) = 1
 size (membership k xs) = 1 + length xs
 size (range k x y) = 3
 size (prefix_test k p) = 2
+size (pattern_test k case parts) = 1
 size (both f g) = 1 + size f + size g
 size (either f g) = 1 + size f + size g
 size (negation f) = 1 + size f

@@ -6,6 +6,7 @@
 pub mod laws;
 mod orders;
 mod outcomes;
+mod pattern_pruning;
 mod prefix_pruning;
 mod pruning;
 mod residual;

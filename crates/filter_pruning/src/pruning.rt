@@ -7,6 +7,7 @@ ghost use Rattle.filter_pruning.specs.Words.{outcomes, range_outcomes, unknown_o
 
 use crate::orders::Orders;
 use crate::outcomes::Outcomes;
+use crate::pattern_pruning::outcomes_of_pattern;
 use crate::prefix_pruning::outcomes_of_prefix;
 use vortex_filter::{CompareOperator, Filter, Truth};
 use vortex_statistics::ColumnStatistics;
@@ -69,6 +70,11 @@ fn possible(filter: &Filter, statistics: &[ColumnStatistics]) -> Outcomes
         Filter::StartsWith { column, prefix } => {
             outcomes_of_prefix(known_of(statistics, *column), prefix)
         }
+        Filter::Like {
+            column,
+            pattern,
+            case,
+        } => outcomes_of_pattern(known_of(statistics, *column), pattern, *case),
         Filter::And(left, right) => {
             let left = possible(left, statistics);
             if is_settled(left, Truth::False) {

@@ -289,6 +289,7 @@ fn is_constant(filter: &Filter, truth: Truth) -> bool
         Filter::In { .. } => false,
         Filter::Between { .. } => false,
         Filter::StartsWith { .. } => false,
+        Filter::Like { .. } => false,
         Filter::And(_, _) => false,
         Filter::Or(_, _) => false,
         Filter::Not(_) => false,
