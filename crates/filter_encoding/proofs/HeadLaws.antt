@@ -2,15 +2,17 @@
 use Rattle.std.proofs.Common.{◌≡◌, ◌==◌, ℕ, zero, suc, List, [], ◌∷◌, ◌++◌, drop, Option, Some, None, refl, sym, subst, ap, ◌∙◌, arith}
 use Rattle.std.specs.Prelude.{if◌then◌else◌}
 use Rattle.std.proofs.lemmas.Option.{same_Some}
+use Rattle.like_patterns.specs.declared.case.Case.{Case}
+use Rattle.like_patterns.specs.Patterns.{Part}
 use Rattle.vortex_cells.specs.Cells.{Cell}
-use Rattle.vortex_filter.specs.Formula.{Formula, constant, comparison, null_test, membership, range, prefix_test, both, either, negation}
+use Rattle.vortex_filter.specs.Formula.{Formula, constant, comparison, null_test, membership, range, prefix_test, pattern_test, both, either, negation}
 use Rattle.vortex_filter.specs.declared.operator.CompareOperator.TheVariants.{Eq, NotEq, Gt, Gte, Lt, Lte}
 use Rattle.vortex_filter.specs.declared.truth.Truth.TheVariants.{False, Unknown, True}
 use Rattle.filter_encoding.specs.Encoding.{node_bytes}
 use Rattle.filter_encoding.specs.Steps.{IsNode, IsNodeEncoding, MayBegin, head_byte}
 use Rattle.filter_encoding.specs.Strings.{IsStuck}
 use Rattle.filter_encoding.specs.declared.heads.Head.{Head}
-use Rattle.filter_encoding.specs.declared.heads.Head.TheVariants.{Constant, Compare, IsNull, In, Between, StartsWith, And, Or, Not}
+use Rattle.filter_encoding.specs.declared.heads.Head.TheVariants.{Constant, Compare, IsNull, In, Between, StartsWith, Like, And, Or, Not}
 use Rattle.filter_encoding.proofs.Stuck.{GoesOn, encoding_of, none_byte, none_end, stuck_here}
 use Rattle.filter_encoding.proofs.TypeLaws.{first_same}
 
@@ -24,6 +26,7 @@ Body IsNull = ℕ
 Body In = ℕ × List Cell
 Body Between = ℕ × (Cell × Cell)
 Body StartsWith = ℕ × Cell
+Body Like = ℕ × (Case × List Part)
 Body And = Formula × Formula
 Body Or = Formula × Formula
 Body Not = Formula
@@ -35,6 +38,7 @@ made IsNull b = null_test b
 made In b = membership b.0 b.1
 made Between b = range b.0 b.1.0 b.1.1
 made StartsWith b = prefix_test b.0 b.1
+made Like b = pattern_test b.0 b.1.0 b.1.1
 made And b = both b.0 b.1
 made Or b = either b.0 b.1
 made Not b = negation b
@@ -46,6 +50,7 @@ head_of (null_test k) = IsNull
 head_of (membership k xs) = In
 head_of (range k x y) = Between
 head_of (prefix_test k x) = StartsWith
+head_of (pattern_test k case parts) = Like
 head_of (both f g) = And
 head_of (either f g) = Or
 head_of (negation f) = Not
@@ -62,6 +67,7 @@ made_itself (null_test k) = record { body = k; is = refl }
 made_itself (membership k xs) = record { body = (k, xs); is = refl }
 made_itself (range k x y) = record { body = (k, (x, y)); is = refl }
 made_itself (prefix_test k x) = record { body = (k, x); is = refl }
+made_itself (pattern_test k case parts) = record { body = (k, (case, parts)); is = refl }
 made_itself (both f g) = record { body = (f, g); is = refl }
 made_itself (either f g) = record { body = (f, g); is = refl }
 made_itself (negation f) = record { body = f; is = refl }
@@ -86,7 +92,8 @@ head_at byte =
     if byte == 12 then Some StartsWith else
     if byte == 13 then Some And else
     if byte == 14 then Some Or else
-    if byte == 15 then Some Not else None
+    if byte == 15 then Some Not else
+    if byte == 16 then Some Like else None
 
 head_back : (h : Head) → head_at (head_byte h) ≡ Some h
 head_back (Constant False) = refl
@@ -102,6 +109,7 @@ head_back IsNull = refl
 head_back In = refl
 head_back Between = refl
 head_back StartsWith = refl
+head_back Like = refl
 head_back And = refl
 head_back Or = refl
 head_back Not = refl
@@ -120,6 +128,7 @@ first_byte (null_test k) = record { tail = _; is = refl }
 first_byte (membership k xs) = record { tail = _; is = refl }
 first_byte (range k x y) = record { tail = _; is = refl }
 first_byte (prefix_test k x) = record { tail = _; is = refl }
+first_byte (pattern_test k case parts) = record { tail = _; is = refl }
 first_byte (both f g) = record { tail = _; is = refl }
 first_byte (either f g) = record { tail = _; is = refl }
 first_byte (negation f) = record { tail = _; is = refl }
@@ -172,6 +181,7 @@ node_may_begin n (null_test k) h = tt
 node_may_begin n (membership k xs) h = tt
 node_may_begin n (range k x y) h = tt
 node_may_begin n (prefix_test k x) h = tt
+node_may_begin n (pattern_test k case parts) h = tt
 node_may_begin zero (both f g) h = absurd h
 node_may_begin (suc n) (both f g) h = omega arith
 node_may_begin zero (either f g) h = absurd h

@@ -5,6 +5,8 @@ pub mod ListLaws
 pub mod LiteralLaws
 pub mod NoValueLaws
 pub mod NodeLaws
+pub mod PartLaws
+pub mod PatternSteps
 pub mod PlaceLaws
 pub mod ReadSteps
 pub mod ReadableLaws

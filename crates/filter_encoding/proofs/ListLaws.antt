@@ -16,7 +16,7 @@ each_append : {X : Type 0} (f : X → List ℕ) (xs ys : List X) → each_bytes 
 each_append f [] ys = refl
 each_append f (x ∷ xs) ys = ap (λ bs. f x ++ bs) (each_append f xs ys) ∙ sym (append_assoc (f x) (each_bytes f xs) (each_bytes f ys))
 
-all_append : {X : Type 0} (Is : X → Type 0) (xs ys : List X) → AllByRecursion Is xs → AllByRecursion Is ys → AllByRecursion Is (xs ++ ys)
+pub all_append : {X : Type 0} (Is : X → Type 0) (xs ys : List X) → AllByRecursion Is xs → AllByRecursion Is ys → AllByRecursion Is (xs ++ ys)
 all_append Is [] ys h g = g
 all_append Is (x ∷ xs) ys h g = (h.0, all_append Is xs ys h.1 g)
 
@@ -174,7 +174,7 @@ list_read f Is n xs old mid now h g = record {
 pub loop_start : {X A : Type 0} (f : X → List ℕ) (Is : X → Type 0) (view : A → X) (items : List A) (old : List ℕ) → items ≡ [] → HasRead (each_bytes f) (AreSo 0 Is) (map view items) old old
 loop_start f Is view items old e = subst (λ xs. HasRead (each_bytes f) (AreSo 0 Is) (map view xs) old old) (sym e) (none_read f Is old)
 
-map_last : {X A : Type 0} (view : A → X) (xs : List A) (x : A) → map view (xs ++ x ∷ []) ≡ map view xs ++ view x ∷ []
+pub map_last : {X A : Type 0} (view : A → X) (xs : List A) (x : A) → map view (xs ++ x ∷ []) ≡ map view xs ++ view x ∷ []
 map_last view [] x = refl
 map_last view (y ∷ xs) x = ap (λ ys. view y ∷ ys) (map_last view xs x)
 

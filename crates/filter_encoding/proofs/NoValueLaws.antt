@@ -1,5 +1,5 @@
 -- Where the first literal stands that is no value of its logical type.
-use Rattle.std.proofs.Common.{◌≡◌, ◌≢◌, ◌∙◌, ◌⊎◌, inl, inr, ℕ, zero, suc, ◌+◌, ◌^◌, ◌<◌, ◌≤◌, arith, List, [], ◌∷◌, ◌++◌, ap, drop, drop-cons, get_or, length, length-append, map, refl, subst, sym, true≢false}
+use Rattle.std.proofs.Common.{◌≡◌, ◌≢◌, ◌∙◌, ◌⊎◌, inl, inr, ℕ, zero, suc, ◌+◌, ◌*◌, ◌^◌, ◌<◌, ◌≤◌, arith, List, [], ◌∷◌, ◌++◌, ap, drop, drop-cons, get_or, length, length-append, map, refl, subst, sym, true≢false}
 use Rattle.std.specs.Prelude.{Err, IsErr, Ok, Result}
 use Rattle.std.specs.List.{AllByRecursion}
 use Rattle.std.specs.Result.{IsErrAnd}
@@ -10,12 +10,15 @@ use Rattle.vortex_value.specs.Size.{capped}
 use Rattle.vortex_value.specs.Values.Content.{string, text}
 use Rattle.vortex_value.specs.declared.scalars.Scalar.{Scalar}
 use Rattle.vortex_row.specs.Keys.{key}
+use Rattle.like_patterns.specs.declared.case.Case.{Case}
+use Rattle.like_patterns.specs.Patterns.{Part}
 use Rattle.vortex_cells.specs.Cells.{Cell, cell_of}
-use Rattle.vortex_filter.specs.Formula.{Formula, both, comparison, constant, either, membership, negation, null_test, prefix_test, range}
+use Rattle.vortex_filter.specs.Formula.{Formula, both, comparison, constant, either, membership, negation, null_test, pattern_test, prefix_test, range}
 use Rattle.vortex_filter.specs.declared.operator.CompareOperator.{CompareOperator}
 use Rattle.statistics_bytes.proofs.CountBytes.{big_endian-length}
 use Rattle.filter_encoding.specs.Encoding.{Behind, FirstAmong, FirstIn, HasValues, IsLogicallyValid, IsNoValueAt, Prepared, byte_string, extension_bytes, literal_bytes, node_bytes, type_bytes}
 use Rattle.filter_encoding.specs.Lists.{count_bytes, each_bytes, listed}
+use Rattle.filter_encoding.specs.Patterns.{case_bytes, part_bytes}
 use Rattle.filter_encoding.specs.Steps.{IsNoValueOf, Passes}
 use Rattle.filter_encoding.specs.declared.error.FilterEncodingError.{FilterEncodingError}
 use Rattle.filter_encoding.specs.declared.error.FilterEncodingError.TheVariants.{BadBytes, NoEncoding, NotAValue, OutOfMemory}
@@ -159,6 +162,16 @@ module _ (k offset start : ℕ) (r : Result ℕ NoValue) where
 pub null_passes : (k offset end : ℕ) → end ≡ capped (offset + 9) → FilterPasses (null_test k) offset (Ok end)
 null_passes k offset end e = (tt, omega (arith, e, big_endian-length 8 k))
 
+each_three : (parts : List Part) → length (each_bytes part_bytes parts) ≡ 3 * length parts
+each_three [] = refl
+each_three (p ∷ parts) = omega (arith, each_three parts)
+
+pub like_passes : (k : ℕ) (case : Case) (parts : List Part) (offset start end : ℕ) → start ≡ capped (offset + 18) → end ≡ capped (start + 3 * length parts) → FilterPasses (pattern_test k case parts) offset (Ok end)
+like_passes k case parts offset start end s e = (
+  tt,
+  omega (arith, s, e, each_three parts, length-append (count_bytes k) (case_bytes case ++ listed part_bytes parts), length-append (count_bytes (length parts)) (each_bytes part_bytes parts), big_endian-length 8 k, big_endian-length 8 (length parts)),
+)
+
 module _ (f g : Formula) (whole offset start : ℕ) (s : start ≡ capped (offset + 1)) where
   abbrev FirstOf : ℕ → Type 0
   FirstOf n = Behind 1 (λ m. FirstIn f m) n ⊎ (HasValues f × Behind (1 + length (node_bytes f)) (λ m. FirstIn g m) n)
@@ -207,6 +220,7 @@ none_in (null_test k) n h all = h
 none_in (membership k xs) n h all = none_among xs h.0 h.2 all
 none_in (range k x y) n h all = none_among (x ∷ y ∷ []) h.0 h.2 (all.0, (all.1, tt))
 none_in (prefix_test k x) n h all = h.2.1 all
+none_in (pattern_test k case parts) n h all = h
 none_in (both f g) n (inl h) all = none_in f h.0 h.2 all.0
 none_in (both f g) n (inr h) all = none_in g h.1.0 h.1.2 all.1
 none_in (either f g) n (inl h) all = none_in f h.0 h.2 all.0
@@ -223,6 +237,7 @@ first_within (membership k xs) n h =
 first_within (range k x y) n h =
     omega (arith, h.1, among_within (x ∷ y ∷ []) h.0 h.2, length-append (count_bytes k) (literal_bytes x ++ literal_bytes y), length-append (literal_bytes x) (literal_bytes y), length-append (literal_bytes x) (literal_bytes y ++ []), length-append (literal_bytes y) [], big_endian-length 8 k)
 first_within (prefix_test k x) n h = omega (arith, h.1, h.2.0, length-append (count_bytes k) (literal_bytes x), length-append (type_bytes x.typed) (key x.content), big_endian-length 8 k)
+first_within (pattern_test k case parts) n h = absurd h
 first_within (both f g) n (inl h) = omega (arith, h.1, first_within f h.0 h.2, length-append (node_bytes f) (node_bytes g))
 first_within (both f g) n (inr h) = omega (arith, h.1.1, first_within g h.1.0 h.1.2, length-append (node_bytes f) (node_bytes g))
 first_within (either f g) n (inl h) = omega (arith, h.1, first_within f h.0 h.2, length-append (node_bytes f) (node_bytes g))

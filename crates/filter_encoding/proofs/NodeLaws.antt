@@ -1,15 +1,18 @@
 -- Filters: what begins with two of them, and what comes after the first byte of each kind.
 use Rattle.std.proofs.Common.{◌≡◌, ℕ, zero, suc, List, [], ◌∷◌, ◌++◌, refl, sym, subst, ap, ap₂, ◌∙◌, append_assoc, arith}
-use Rattle.vortex_filter.specs.Formula.{Formula, constant, comparison, null_test, membership, range, prefix_test, both, either, negation}
+use Rattle.like_patterns.specs.declared.case.Case.TheVariants.{Sensitive}
+use Rattle.vortex_filter.specs.Formula.{Formula, constant, comparison, null_test, membership, range, prefix_test, pattern_test, both, either, negation}
 use Rattle.vortex_filter.specs.declared.operator.CompareOperator.{CompareOperator}
 use Rattle.filter_encoding.specs.Encoding.{IsLiteral, literal_bytes, node_bytes, operator_byte}
 use Rattle.filter_encoding.specs.Lists.{AreListed, Fits, count_bytes, listed}
+use Rattle.filter_encoding.specs.Patterns.{IsCase, IsPart, case_bytes, part_bytes}
 use Rattle.filter_encoding.specs.Steps.{IsNode, IsNodeEncoding}
 use Rattle.filter_encoding.specs.Strings.{HasRead, IsEncodingOf, IsStuck, Then}
-use Rattle.filter_encoding.specs.declared.heads.Head.TheVariants.{Constant, Compare, IsNull, In, Between, StartsWith, And, Or, Not}
+use Rattle.filter_encoding.specs.declared.heads.Head.TheVariants.{Constant, Compare, IsNull, In, Between, StartsWith, Like, And, Or, Not}
 use Rattle.filter_encoding.proofs.HeadLaws.{head_goes_on, same_head}
 use Rattle.filter_encoding.proofs.ListLaws.{listed_apart}
 use Rattle.filter_encoding.proofs.LiteralLaws.{literals_apart, null_literal}
+use Rattle.filter_encoding.proofs.PartLaws.{cases_apart, parts_apart}
 use Rattle.filter_encoding.proofs.PlaceLaws.{places_apart}
 use Rattle.filter_encoding.proofs.Stuck.{AreApart, GoesOn, alone_of, encoding_of, stuck_later, stuck_within, then_begins, then_goes_on}
 use Rattle.filter_encoding.proofs.TypeLaws.{first_same}
@@ -24,10 +27,19 @@ Literal = IsEncodingOf literal_bytes IsLiteral
 abbrev pub Literals : List ℕ → Type 0
 Literals = IsEncodingOf (listed literal_bytes) (AreListed IsLiteral)
 
+abbrev pub OneCase : List ℕ → Type 0
+OneCase = IsEncodingOf case_bytes IsCase
+
+abbrev pub OnePattern : List ℕ → Type 0
+OnePattern = IsEncodingOf (listed part_bytes) (AreListed IsPart)
+
 -- ---- what begins with two filters
 
 lists_apart : AreApart (listed literal_bytes) (AreListed IsLiteral)
 lists_apart = listed_apart places_apart literal_bytes IsLiteral literals_apart
+
+pub patterns_apart : AreApart (listed part_bytes) (AreListed IsPart)
+patterns_apart = listed_apart places_apart part_bytes IsPart parts_apart
 
 -- what begins with a place and a string of a kind
 placed_apart : {X : Type 0} (bytes_of : X → List ℕ) (Is : X → Type 0) → AreApart bytes_of Is → (j k : ℕ) (x y : X) (xs ys : List ℕ) → Fits j → Fits k → Is x → Is y
@@ -98,6 +110,17 @@ node_apart n m (prefix_test k x) g xs ys p q e =
     let v = first_same _ _ ((count_bytes k ++ literal_bytes x) ++ xs) ((count_bytes b.0 ++ literal_bytes b.1) ++ ys) (e ∙ ap (λ h. node_bytes h ++ ys) w.is) in
     let u = placed_apart literal_bytes IsLiteral literals_apart k b.0 x b.1 xs ys p.0 r.0 p.1 r.1 v.1 in
     (ap₂ prefix_test u.0 u.1 ∙ sym w.is, u.2)
+node_apart n m (pattern_test k case parts) g xs ys p q e =
+    let w = same_head Like g _ ys e in
+    let b = w.body in
+    let r : IsNode m (pattern_test b.0 b.1.0 b.1.1) = subst (IsNode m) w.is q in
+    let v = first_same _ _ ((count_bytes k ++ (case_bytes case ++ listed part_bytes parts)) ++ xs) ((count_bytes b.0 ++ (case_bytes b.1.0 ++ listed part_bytes b.1.1)) ++ ys) (e ∙ ap (λ h. node_bytes h ++ ys) w.is) in
+    let u = places_apart.apart k b.0 ((case_bytes case ++ listed part_bytes parts) ++ xs) ((case_bytes b.1.0 ++ listed part_bytes b.1.1) ++ ys) p.0 r.0
+    (sym (append_assoc (count_bytes k) (case_bytes case ++ listed part_bytes parts) xs) ∙ v.1 ∙ append_assoc (count_bytes b.0) (case_bytes b.1.0 ++ listed part_bytes b.1.1) ys) in
+    let s = cases_apart.apart case b.1.0 (listed part_bytes parts ++ xs) (listed part_bytes b.1.1 ++ ys) p.1.0 r.1.0
+    (sym (append_assoc (case_bytes case) (listed part_bytes parts) xs) ∙ u.1 ∙ append_assoc (case_bytes b.1.0) (listed part_bytes b.1.1) ys) in
+    let t = patterns_apart.apart parts b.1.1 xs ys p.1.1 r.1.1 s.1 in
+    (ap (λ j. pattern_test j case parts) u.0 ∙ ap₂ (λ c d. pattern_test b.0 c d) s.0 t.0 ∙ sym w.is, t.1)
 node_apart n m (both f1 f2) g xs ys p q e =
     let w = same_head And g _ ys e in
     let b = w.body in
@@ -174,6 +197,29 @@ prefix_goes_on n =
     (λ q r. ((r.is_first.value, r.is_second.value), (r.is_first.is_one, r.is_second.is_one), r.is ∙ ap₂ (λ xs ys. xs ++ ys) r.is_first.is r.is_second.is))
     (λ b h. record { first = count_bytes b.0; second = literal_bytes b.1; is_first = encoding_of count_bytes Fits b.0 h.0; is_second = encoding_of literal_bytes IsLiteral b.1 h.1; is = refl })
 
+pub like_goes_on : (n : ℕ) → GoesOn (16 ∷ []) (IsNodeEncoding n) (Then Place (Then OneCase OnePattern))
+like_goes_on n =
+    head_goes_on Like n (Then Place (Then OneCase OnePattern)) (λ b. count_bytes b.0 ++ (case_bytes b.1.0 ++ listed part_bytes b.1.1)) (λ b. refl)
+    (λ q r.
+    let ends = r.is_second in (
+      (r.is_first.value, (ends.is_first.value, ends.is_second.value)),
+      (r.is_first.is_one, (ends.is_first.is_one, ends.is_second.is_one)),
+      r.is ∙ ap₂ (λ xs ys. xs ++ ys) r.is_first.is (ends.is ∙ ap₂ (λ xs ys. xs ++ ys) ends.is_first.is ends.is_second.is),
+    ))
+    (λ b h. record {
+      first = count_bytes b.0;
+      second = case_bytes b.1.0 ++ listed part_bytes b.1.1;
+      is_first = encoding_of count_bytes Fits b.0 h.0;
+      is_second = record {
+        first = case_bytes b.1.0;
+        second = listed part_bytes b.1.1;
+        is_first = encoding_of case_bytes IsCase b.1.0 h.1.0;
+        is_second = encoding_of (listed part_bytes) (AreListed IsPart) b.1.1 h.1.1;
+        is = refl;
+      };
+      is = refl;
+    })
+
 pub both_goes_on : (n : ℕ) → GoesOn (13 ∷ []) (IsNodeEncoding (suc n)) (Then (IsNodeEncoding n) (IsNodeEncoding n))
 both_goes_on n =
     head_goes_on And (suc n) (Then (IsNodeEncoding n) (IsNodeEncoding n)) (λ b. node_bytes b.0 ++ node_bytes b.1) (λ b. refl)
@@ -209,3 +255,9 @@ some_literals = (_, encoding_of (listed literal_bytes) (AreListed IsLiteral) [] 
 
 pub some_literal_pair : (s : List ℕ) × Then Literal Literal s
 some_literal_pair = (_, record { first = some_literal.0; second = some_literal.0; is_first = some_literal.1; is_second = some_literal.1; is = refl })
+
+pub some_pattern : (s : List ℕ) × OnePattern s
+some_pattern = (_, encoding_of (listed part_bytes) (AreListed IsPart) [] (record { fit = omega arith; each = tt }))
+
+pub some_matching : (s : List ℕ) × Then OneCase OnePattern s
+some_matching = (_, record { first = case_bytes Sensitive; second = some_pattern.0; is_first = encoding_of case_bytes IsCase Sensitive tt; is_second = some_pattern.1; is = refl })

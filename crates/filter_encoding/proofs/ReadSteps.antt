@@ -2,21 +2,25 @@
 use Rattle.std.proofs.Common.{◌≡◌, ℕ, suc, List, [], ◌∷◌, ◌++◌, Box, Global, refl, sym, subst, ap, ◌∙◌, append_assoc, true≢false}
 use Rattle.std.specs.Prelude.{Err, IsErr, Ok, Result}
 use Rattle.std.specs.Result.{IsErrAnd}
+use Rattle.like_patterns.specs.declared.case.Case.{Case}
+use Rattle.like_patterns.specs.Patterns.{Part}
 use Rattle.vortex_cells.specs.Cells.{Cell}
-use Rattle.vortex_filter.specs.Formula.{Formula, formula, constant, comparison, null_test, membership, range, prefix_test, both, either, negation}
+use Rattle.vortex_filter.specs.Formula.{Formula, formula, constant, comparison, null_test, membership, range, prefix_test, pattern_test, both, either, negation}
 use Rattle.vortex_filter.specs.declared.filter.Filter.{Filter}
 use Rattle.vortex_filter.specs.declared.operator.CompareOperator.{CompareOperator}
 use Rattle.vortex_filter.specs.declared.truth.Truth.{Truth}
 use Rattle.filter_encoding.specs.Encoding.{IsLiteral, literal_bytes, node_bytes, operator_byte, truth_byte}
 use Rattle.filter_encoding.specs.Lists.{AreListed, Fits, count_bytes, listed}
+use Rattle.filter_encoding.specs.Patterns.{IsCase, IsPart, case_bytes, part_bytes}
 use Rattle.filter_encoding.specs.Steps.{IsNode, IsNodeEncoding, MayBegin, ReadsBehind, ReadsBoth, head_byte}
 use Rattle.filter_encoding.specs.Strings.{HasRead, IsEncodingOf, IsStuck, Reads, Then}
 use Rattle.filter_encoding.specs.declared.heads.Head.{Head}
 use Rattle.filter_encoding.specs.declared.reader.FilterDecodeError.{FilterDecodeError}
 use Rattle.filter_encoding.specs.declared.reader.FilterDecodeError.TheVariants.{Bad}
-use Rattle.filter_encoding.proofs.NodeLaws.{Literal, Literals, Place, both_goes_on, comparison_goes_on, either_goes_on, first_stuck, membership_goes_on, negation_goes_on, nodes_apart, null_test_goes_on, prefix_goes_on, range_goes_on, second_stuck, some_literal, some_literal_pair, some_literals}
+use Rattle.filter_encoding.proofs.NodeLaws.{Literal, Literals, OneCase, OnePattern, Place, both_goes_on, comparison_goes_on, either_goes_on, first_stuck, like_goes_on, membership_goes_on, negation_goes_on, nodes_apart, null_test_goes_on, prefix_goes_on, range_goes_on, second_stuck, some_literal, some_literal_pair, some_literals, some_matching, some_pattern}
 use Rattle.filter_encoding.proofs.HeadLaws.{some_node}
 use Rattle.filter_encoding.proofs.LiteralLaws.{literals_apart}
+use Rattle.filter_encoding.proofs.PartLaws.{cases_apart}
 use Rattle.filter_encoding.proofs.PlaceLaws.{places_apart}
 use Rattle.filter_encoding.proofs.Stuck.{alone_of, encoding_of, stuck_later, stuck_within, then_begins, then_goes_on}
 
@@ -66,6 +70,16 @@ prefix_read n k x f old mid now e h g = record {
   is = ap (λ xs. 12 ∷ xs) (h.is ∙ ap (λ xs. count_bytes k ++ xs) g.is ∙ sym (append_assoc (count_bytes k) (literal_bytes x) now)) ∙ ap (λ h. node_bytes h ++ now) (sym e);
 }
 
+pub like_read : (n k : ℕ) (case : Case) (parts : List Part) (f : Formula) (old mid here now : List ℕ) → f ≡ pattern_test k case parts → HasRead count_bytes Fits k old mid → HasRead case_bytes IsCase case mid here
+    → HasRead (listed part_bytes) (AreListed IsPart) parts here now → HasRead node_bytes (IsNode n) f (16 ∷ old) now
+like_read n k case parts f old mid here now e h g i = record {
+  is_one = subst (IsNode n) (sym e) (h.is_one, (g.is_one, i.is_one));
+  is =
+      ap (λ xs. 16 ∷ xs)
+      (h.is ∙ ap (λ xs. count_bytes k ++ xs) (g.is ∙ ap (λ xs. case_bytes case ++ xs) i.is ∙ sym (append_assoc (case_bytes case) (listed part_bytes parts) now)) ∙ sym (append_assoc (count_bytes k) (case_bytes case ++ listed part_bytes parts) now))
+      ∙ ap (λ h. node_bytes h ++ now) (sym e);
+}
+
 pub comparison_place_stuck : (n : ℕ) (op : CompareOperator) (old now : List ℕ) → IsStuck Place old now → IsStuck (IsNodeEncoding n) (operator_byte op ∷ old) now
 comparison_place_stuck n op old now stuck = first_stuck (operator_byte op ∷ []) (IsNodeEncoding n) Place Literal (operator_byte op ∷ old) old now (comparison_goes_on n op) some_literal refl stuck
 
@@ -99,6 +113,19 @@ prefix_place_stuck n old now stuck = first_stuck (12 ∷ []) (IsNodeEncoding n) 
 
 pub prefix_literal_stuck : (n k : ℕ) (old mid now : List ℕ) → HasRead count_bytes Fits k old mid → IsStuck Literal mid now → IsStuck (IsNodeEncoding n) (12 ∷ old) now
 prefix_literal_stuck n k old mid now h stuck = second_stuck count_bytes Fits (12 ∷ []) (IsNodeEncoding n) Literal k (12 ∷ old) old mid now places_apart (prefix_goes_on n) refl h stuck
+
+pub like_place_stuck : (n : ℕ) (old now : List ℕ) → IsStuck Place old now → IsStuck (IsNodeEncoding n) (16 ∷ old) now
+like_place_stuck n old now stuck = first_stuck (16 ∷ []) (IsNodeEncoding n) Place (Then OneCase OnePattern) (16 ∷ old) old now (like_goes_on n) some_matching refl stuck
+
+pub like_case_stuck : (n k : ℕ) (old mid now : List ℕ) → HasRead count_bytes Fits k old mid → IsStuck OneCase mid now → IsStuck (IsNodeEncoding n) (16 ∷ old) now
+like_case_stuck n k old mid now h stuck =
+    second_stuck count_bytes Fits (16 ∷ []) (IsNodeEncoding n) (Then OneCase OnePattern) k (16 ∷ old) old mid now places_apart (like_goes_on n) refl h
+    (stuck_within OneCase (Then OneCase OnePattern) mid now (then_begins OneCase OnePattern some_pattern) stuck)
+
+pub like_pattern_stuck : (n k : ℕ) (case : Case) (old mid here now : List ℕ) → HasRead count_bytes Fits k old mid → HasRead case_bytes IsCase case mid here → IsStuck OnePattern here now → IsStuck (IsNodeEncoding n) (16 ∷ old) now
+like_pattern_stuck n k case old mid here now h g stuck =
+    second_stuck count_bytes Fits (16 ∷ []) (IsNodeEncoding n) (Then OneCase OnePattern) k (16 ∷ old) old mid now places_apart (like_goes_on n) refl h
+    (stuck_later (case_bytes case) (Then OneCase OnePattern) OnePattern mid here now (then_goes_on OneCase OnePattern (case_bytes case) (alone_of case_bytes IsCase cases_apart) (encoding_of case_bytes IsCase case g.is_one)) g.is stuck)
 
 -- ---- connectives
 

@@ -10,7 +10,7 @@ use Rattle.vortex_filter.specs.declared.filter.Filter.TheOpen.{Filter-F}
 use Rattle.vortex_filter.specs.declared.filter.Filter.TheFolds.{fold-roll-Filter, ind-Filter, map-Filter}
 use Rattle.vortex_filter.specs.declared.filter.Filter.TheViews.{roll-Filter}
 use Rattle.vortex_filter.specs.FilterLiterals.{AreValid, literals_of, literals_step}
-use Rattle.vortex_filter.specs.Formula.{Formula, constant, comparison, null_test, membership, range, prefix_test, both, either, negation, formula, formula_step}
+use Rattle.vortex_filter.specs.Formula.{Formula, constant, comparison, null_test, membership, range, prefix_test, pattern_test, both, either, negation, formula, formula_step}
 use Rattle.vortex_filter.proofs.LiteralSteps.{valid_left, valid_right}
 use Rattle.filter_encoding.specs.Encoding.{CanBeWritten, HasEncoding, HasValues, IsHeldCell, IsLiteral, IsLogicallyValid, IsPlainCell, IsWritten, Nests, Prepared, parts_of}
 
@@ -28,6 +28,7 @@ module _ (P Q : Cell → Type 0) (to : (x : Cell) → P x → Q x) where
   nests_too n (membership k xs) h = (h.0, record { fit = h.1.fit; each = each_too xs h.1.each })
   nests_too n (range k x y) h = (h.0, (to x h.1.0, to y h.1.1))
   nests_too n (prefix_test k x) h = (h.0, to x h.1)
+  nests_too n (pattern_test k case parts) h = h
   nests_too zero (both f g) h = absurd h
   nests_too (suc n) (both f g) h = (nests_too n f h.0, nests_too n g h.1)
   nests_too zero (either f g) h = absurd h
@@ -78,6 +79,7 @@ module _ (S : Type 0) (part : S → Filter) (are : (s : S) → CanBeRead (part s
   by_layer (Filter-F.In k xs) = by_step (Filter-F.In k xs) (λ n v h. (h.0, record { fit = h.1.fit; each = each_literal xs.items v h.1.each }))
   by_layer (Filter-F.Between k x y) = by_step (Filter-F.Between k x y) (λ n v h. (h.0, (literal x v.0 h.1.0, literal y v.1.0 h.1.1)))
   by_layer (Filter-F.StartsWith k p) = by_step (Filter-F.StartsWith k p) (λ n v h. (h.0, literal p v.0 h.1))
+  by_layer (Filter-F.Like k pattern case) = by_step (Filter-F.Like k pattern case) (λ n v h. h)
   by_layer (Filter-F.And f g) = by_step (map-Filter S Filter part (Filter-F.And f g)) (λ n v h. of_both n f.value g.value v h)
   by_layer (Filter-F.Or f g) = by_step (map-Filter S Filter part (Filter-F.Or f g)) (λ n v h. of_either n f.value g.value v h)
   by_layer (Filter-F.Not f) = by_step (map-Filter S Filter part (Filter-F.Not f)) (λ n v h. of_negation n f.value v h)
@@ -96,6 +98,7 @@ values_of n (null_test k) h = tt
 values_of n (membership k xs) h = each_value xs h.1.each
 values_of n (range k x y) h = (h.1.0.logical, h.1.1.logical)
 values_of n (prefix_test k x) h = h.1.logical
+values_of n (pattern_test k case parts) h = tt
 values_of zero (both f g) h = absurd h
 values_of (suc n) (both f g) h = (values_of n f h.0, values_of n g h.1)
 values_of zero (either f g) h = absurd h

@@ -16,7 +16,7 @@ use Rattle.vortex_row.specs.Decoded.{IsValueOf}
 use Rattle.vortex_row.specs.Held.{IsHeld}
 use Rattle.vortex_row.specs.Keys.{key}
 use Rattle.vortex_cells.specs.Cells.{Cell}
-use Rattle.vortex_filter.specs.Formula.{Formula, formula, constant, comparison, null_test, membership, range, prefix_test, both, either, negation}
+use Rattle.vortex_filter.specs.Formula.{Formula, formula, constant, comparison, null_test, membership, range, prefix_test, pattern_test, both, either, negation}
 use Rattle.vortex_filter.specs.LogicalValues.{IsLogicalValue}
 use Rattle.vortex_filter.specs.declared.filter.Filter.{Filter}
 use Rattle.vortex_filter.specs.declared.operator.CompareOperator.{CompareOperator}
@@ -26,6 +26,7 @@ use Rattle.vortex_filter.specs.declared.truth.Truth.TheVariants.{False, Unknown,
 use Rattle.logical_scalars.specs.Stored.{IsOfLogicalType}
 use Rattle.logical_types.specs.declared.logical.LogicalType.{LogicalType}
 use Rattle.filter_encoding.specs.Lists.{AreListed, Fits, count_bytes, listed}
+use Rattle.filter_encoding.specs.Patterns.{IsCase, IsPart, case_bytes, part_bytes}
 use Rattle.filter_encoding.specs.declared.prepared.PreparedFilter.{PreparedFilter}
 
 -- ---- types
@@ -134,7 +135,7 @@ operator_byte Gte = 6
 operator_byte Lt = 7
 operator_byte Lte = 8
 
--- A filter: the byte of its kind; then the place of its column and its literals, or its parts.
+-- A filter: the byte of its kind; then the place of its column and its literals, or its case and its pattern, or its parts.
 abbrev pub node_bytes : Formula → List ℕ
 node_bytes (constant t) = truth_byte t ∷ []
 node_bytes (comparison k op x) = operator_byte op ∷ (count_bytes k ++ literal_bytes x)
@@ -142,11 +143,13 @@ node_bytes (null_test k) = 9 ∷ count_bytes k
 node_bytes (membership k xs) = 10 ∷ (count_bytes k ++ listed literal_bytes xs)
 node_bytes (range k x y) = 11 ∷ (count_bytes k ++ (literal_bytes x ++ literal_bytes y))
 node_bytes (prefix_test k x) = 12 ∷ (count_bytes k ++ literal_bytes x)
+node_bytes (pattern_test k case parts) = 16 ∷ (count_bytes k ++ (case_bytes case ++ listed part_bytes parts))
 node_bytes (both f g) = 13 ∷ (node_bytes f ++ node_bytes g)
 node_bytes (either f g) = 14 ∷ (node_bytes f ++ node_bytes g)
 node_bytes (negation f) = 15 ∷ node_bytes f
 
--- at most n connectives nest, 8 bytes can hold each place and each number of literals, and P holds of each literal
+-- at most n connectives nest, 8 bytes can hold each place and each number of literals or parts, the characters of patterns are
+-- Unicode scalar values, and P holds of each literal
 abbrev pub Nests : (Cell → Type 0) → ℕ → Formula → Type 0
 Nests P n (constant t) = Unit {0}
 Nests P n (comparison k op x) = Fits k × P x
@@ -154,6 +157,7 @@ Nests P n (null_test k) = Fits k
 Nests P n (membership k xs) = Fits k × AreListed P xs
 Nests P n (range k x y) = Fits k × (P x × P y)
 Nests P n (prefix_test k x) = Fits k × P x
+Nests P n (pattern_test k case parts) = Fits k × (IsCase case × AreListed IsPart parts)
 Nests P zero (both f g) = ⊥
 Nests P (suc n) (both f g) = Nests P n f × Nests P n g
 Nests P zero (either f g) = ⊥
@@ -192,6 +196,7 @@ has_extended (null_test k) = false
 has_extended (membership k xs) = list_any is_extended xs
 has_extended (range k x y) = is_extended x || is_extended y
 has_extended (prefix_test k x) = is_extended x
+has_extended (pattern_test k case parts) = false
 has_extended (both f g) = has_extended f || has_extended g
 has_extended (either f g) = has_extended f || has_extended g
 has_extended (negation f) = has_extended f
@@ -236,6 +241,7 @@ OfEach P (null_test k) = Unit {0}
 OfEach P (membership k xs) = AllByRecursion P xs
 OfEach P (range k x y) = P x × P y
 OfEach P (prefix_test k x) = P x
+OfEach P (pattern_test k case parts) = Unit {0}
 OfEach P (both f g) = OfEach P f × OfEach P g
 OfEach P (either f g) = OfEach P f × OfEach P g
 OfEach P (negation f) = OfEach P f
@@ -267,6 +273,7 @@ FirstIn (null_test k) n = ⊥
 FirstIn (membership k xs) n = Behind 17 (FirstAmong xs) n
 FirstIn (range k x y) n = Behind 9 (FirstAmong (x ∷ y ∷ [])) n
 FirstIn (prefix_test k x) n = Behind 9 (IsNoValueAt x) n
+FirstIn (pattern_test k case parts) n = ⊥
 FirstIn (both f g) n = Behind 1 (λ m. FirstIn f m) n ⊎ (HasValues f × Behind (1 + length (node_bytes f)) (λ m. FirstIn g m) n)
 FirstIn (either f g) n = Behind 1 (λ m. FirstIn f m) n ⊎ (HasValues f × Behind (1 + length (node_bytes f)) (λ m. FirstIn g m) n)
 FirstIn (negation f) n = Behind 1 (λ m. FirstIn f m) n

@@ -4,12 +4,15 @@ use Rattle.vortex_dtype.specs.TypeTree.{TypeTree, bool_type, extension_type, int
 use Rattle.vortex_dtype.specs.declared.nullability.Nullability.TheVariants.{NonNullable, Nullable}
 use Rattle.vortex_dtype.specs.declared.ptype.PType.TheVariants.{I8, I32, U8}
 use Rattle.vortex_value.specs.Values.Content.{null, text, whole}
+use Rattle.like_patterns.specs.declared.case.Case.TheVariants.{Sensitive}
+use Rattle.like_patterns.specs.Patterns.{any_character, any_string, literal}
 use Rattle.vortex_cells.specs.Cells.{Cell}
 use Rattle.vortex_filter.specs.declared.operator.CompareOperator.TheVariants.{Gte}
 use Rattle.vortex_filter.specs.declared.truth.Truth.TheVariants.{True}
-use Rattle.vortex_filter.specs.Formula.{both, comparison, constant, membership, negation, null_test, prefix_test}
+use Rattle.vortex_filter.specs.Formula.{both, comparison, constant, membership, negation, null_test, pattern_test, prefix_test}
 use Rattle.filter_encoding.specs.Encoding.{Prepared, encoding, literal_bytes, node_bytes, type_byte, type_bytes, version_of}
 use Rattle.filter_encoding.specs.Lists.{count_bytes}
+use Rattle.filter_encoding.specs.Patterns.{part_bytes}
 use Rattle.filter_encoding.specs.Steps.{type_at}
 
 -- a place, and a count, take 8 bytes
@@ -44,6 +47,14 @@ small n = record { typed = integer_type U8 NonNullable; content = whole (pos n) 
 
 one_of_two : node_bytes (membership 0 (small 0 ∷ small 7 ∷ [])) ≡ 10 ∷ (count_bytes 0 ++ (count_bytes 2 ++ 0 ∷ 12 ∷ 0 ∷ 13 ∷ 7 ∷ []))
 one_of_two = refl
+
+-- the first column like 'a_%'
+like_three_parts : node_bytes (pattern_test 0 Sensitive (literal 97 ∷ any_character ∷ any_string ∷ [])) ≡ 16 ∷ 0 ∷ 0 ∷ 0 ∷ 0 ∷ 0 ∷ 0 ∷ 0 ∷ 0 ∷ 0 ∷ 0 ∷ 0 ∷ 0 ∷ 0 ∷ 0 ∷ 0 ∷ 0 ∷ 3 ∷ 0 ∷ 0 ∷ 97 ∷ 17 ∷ 0 ∷ 0 ∷ 17 ∷ 0 ∷ 1 ∷ []
+like_three_parts = refl
+
+-- the highest character, and the first after the surrogates
+three_bytes_each : part_bytes (literal 0x10_FFFF) ++ part_bytes (literal 0xE000) ≡ 16 ∷ 255 ∷ 255 ∷ 0 ∷ 224 ∷ 0 ∷ []
+three_bytes_each = refl
 
 -- x >= 10 and name like 'ab%', over the columns x, an i32, and name, a string
 abbrev ten : Cell

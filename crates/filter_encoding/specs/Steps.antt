@@ -24,7 +24,7 @@ use Rattle.filter_encoding.specs.Strings.{HasRead, IsEncodingOf, IsStuck, Reads,
 use Rattle.filter_encoding.specs.declared.error.FilterEncodingError.{FilterEncodingError}
 use Rattle.filter_encoding.specs.declared.error.FilterEncodingError.TheVariants.{BadBytes, NoEncoding, NotAValue, OutOfMemory}
 use Rattle.filter_encoding.specs.declared.heads.Head.{Head}
-use Rattle.filter_encoding.specs.declared.heads.Head.TheVariants.{Constant, Compare, IsNull, In, Between, StartsWith, And, Or, Not}
+use Rattle.filter_encoding.specs.declared.heads.Head.TheVariants.{Constant, Compare, IsNull, In, Between, StartsWith, Like, And, Or, Not}
 use Rattle.filter_encoding.specs.declared.literals.Found.{Found}
 use Rattle.filter_encoding.specs.declared.literals.Found.TheVariants.{NoMemory, Value, Wrong}
 use Rattle.filter_encoding.specs.declared.prepared.PreparedFilter.{PreparedFilter}
@@ -65,6 +65,7 @@ head_byte IsNull = 9
 head_byte In = 10
 head_byte Between = 11
 head_byte StartsWith = 12
+head_byte Like = 16
 head_byte And = 13
 head_byte Or = 14
 head_byte Not = 15

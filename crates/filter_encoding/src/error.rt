@@ -3,7 +3,7 @@
 ghost use Rattle.std.specs.Prelude.{◌≡◌};
 ghost use Rattle.filter_encoding.specs.declared.error.FilterEncodingError.TheVariants.{OutOfMemory};
 
-use std::alloc::AllocError;
+use std::alloc::{AllocError, AllocFailed};
 use thiserror::Error;
 
 /// Why a filter was not written or not read. What `Display` writes is for people and is not
@@ -32,6 +32,15 @@ impl From<AllocError> for FilterEncodingError {
     ghost from_gives = { λ _ e. e ≡ OutOfMemory };
 
     fn from(_error: AllocError) -> FilterEncodingError {
+        FilterEncodingError::OutOfMemory
+    }
+}
+
+/// Out of memory; what was to be kept is dropped.
+impl<T: Drop> From<AllocFailed<T>> for FilterEncodingError {
+    ghost from_gives = { λ _ e. e ≡ OutOfMemory };
+
+    fn from(_error: AllocFailed<T>) -> FilterEncodingError {
         FilterEncodingError::OutOfMemory
     }
 }

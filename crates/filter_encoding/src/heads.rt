@@ -17,6 +17,7 @@ pub(crate) enum Head {
     In,
     Between,
     StartsWith,
+    Like,
     And,
     Or,
     Not,
@@ -59,6 +60,7 @@ impl Head {
             Head::In => 10,
             Head::Between => 11,
             Head::StartsWith => 12,
+            Head::Like => 16,
             Head::And => 13,
             Head::Or => 14,
             Head::Not => 15,
@@ -87,6 +89,7 @@ impl Head {
             13 => Some(Head::And),
             14 => Some(Head::Or),
             15 => Some(Head::Not),
+            16 => Some(Head::Like),
             _ => None,
         }
     }

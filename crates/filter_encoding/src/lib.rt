@@ -9,6 +9,7 @@ mod extensions;
 mod heads;
 pub mod laws;
 mod literals;
+mod patterns;
 mod places;
 mod prepared;
 mod reader;

@@ -11,6 +11,7 @@ ghost use Rattle.filter_encoding.specs.Words.{operator_byte, prepared};
 use crate::error::FilterEncodingError;
 use crate::heads::{Head, read_head};
 use crate::literals::{read_literal, read_literals};
+use crate::patterns::{read_case, read_pattern};
 use crate::places::read_place;
 use crate::prepared::PreparedFilter;
 use crate::reader::{FilterDecodeError, Reader};
@@ -143,6 +144,7 @@ fn read_node(
         Head::In => read_membership(alloc, reader),
         Head::Between => read_range(alloc, reader),
         Head::StartsWith => read_prefix(alloc, reader),
+        Head::Like => read_like(alloc, reader),
         Head::And => {
             let (left, right) = read_parts(alloc, depth - 1, reader)?;
             Ok(both(left, right))
@@ -259,4 +261,20 @@ fn read_prefix(alloc: Global, reader: &mut Reader<'_>) -> Result<Filter, FilterD
     let column = read_place(reader)?;
     let prefix = read_literal(alloc, reader)?;
     Ok(Filter::StartsWith { column, prefix })
+}
+
+/// Whether a cell matches a pattern, after its first byte.
+#[tactic(auto, using(vortex_filter::proofs::LiteralSteps::valid))]
+fn read_like(alloc: Global, reader: &mut Reader<'_>) -> Result<Filter, FilterDecodeError>
+    ensures read { (n : ℕ) → ReadsBehind 16 n result (left reader.old) (left reader.new) }
+    ensures valid { IfOk result (λ f. AreValid (literals_of f)) }
+{
+    let column = read_place(reader)?;
+    let case = read_case(reader)?;
+    let pattern = read_pattern(alloc, reader)?;
+    Ok(Filter::Like {
+        column,
+        pattern,
+        case,
+    })
 }

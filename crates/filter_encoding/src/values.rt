@@ -1,11 +1,12 @@
 //! Which literals are values of their logical types, and where the first stands that is none.
 
-ghost use Rattle.std.specs.Prelude.{◌∷◌, ◌↔◌, [], IsTrue, length, map};
+ghost use Rattle.std.specs.Prelude.{◌≡◌, ◌∷◌, ◌↔◌, ◌+◌, ◌*◌, [], IsTrue, length, map};
 ghost use Rattle.std.specs.List.{AllByRecursion};
 ghost use Rattle.filter_encoding.specs.Words.{FirstAmong, FirstIn, HasValues, IsLogicallyValid, IsNoValueAt, Passes};
-ghost use Rattle.filter_encoding.specs.Words.{cell_of, each_bytes, formula, literal_bytes, node_bytes};
+ghost use Rattle.filter_encoding.specs.Words.{capped, cell_of, each_bytes, formula, literal_bytes, node_bytes};
 
 use crate::types::type_length;
+use like_patterns::Pattern;
 use logical_scalars::logical_type_of;
 use vortex_filter::{Filter, logical_value};
 use vortex_row::key_length;
@@ -71,6 +72,13 @@ fn behind_literals(literals: &[Scalar], offset: usize) -> Result<usize, NoValue>
     Ok(end)
 }
 
+/// The offset behind a pattern, of whose parts each has three bytes.
+fn behind_pattern(pattern: &Pattern, offset: usize) -> usize
+    ensures { result ≡ capped (offset + 3 * length pattern.now) }
+{
+    offset.saturating_add(pattern.count_parts().saturating_mul(3))
+}
+
 /// The offset behind a filter, whose literals are so.
 pub(crate) fn behind_filter(filter: &Filter, offset: usize) -> Result<usize, NoValue>
     ensures { Passes (HasValues (formula filter.now)) (length (node_bytes (formula filter.now)))
@@ -83,6 +91,7 @@ pub(crate) fn behind_filter(filter: &Filter, offset: usize) -> Result<usize, NoV
         Filter::In { literals, .. } => behind_literals(literals, offset.saturating_add(17)),
         Filter::Between { lower, upper, .. } => behind_two(lower, upper, offset.saturating_add(9)),
         Filter::StartsWith { prefix, .. } => behind_literal(prefix, offset.saturating_add(9)),
+        Filter::Like { pattern, .. } => Ok(behind_pattern(pattern, offset.saturating_add(18))),
         Filter::And(left, right) => {
             let middle = behind_filter(left, offset.saturating_add(1))?;
             behind_filter(right, middle)

@@ -62,7 +62,7 @@ fn has_extended(filter: &Filter) -> bool
     ensures { result ≡ has_extended (formula filter.now) }
 {
     match filter {
-        Filter::Constant(_) | Filter::IsNull { .. } => false,
+        Filter::Constant(_) | Filter::IsNull { .. } | Filter::Like { .. } => false,
         Filter::Compare { literal, .. } => is_extension(&literal.dtype),
         Filter::In { literals, .. } => any_extended(literals),
         Filter::Between { lower, upper, .. } => {

@@ -2,6 +2,7 @@
 
 ghost use Rattle.std.specs.Prelude.{◌≡◌, ◌++◌, ◌+◌, ◌<◌, ◌∷◌, ◌⊎◌, [], ℕ, suc, Err, IfErr, List, MatchResult, OnErr};
 ghost use Rattle.std.specs.Prelude.{OnOk, map};
+ghost use Rattle.filter_encoding.specs.Patterns.{IsCase, IsPart, case_bytes, part_bytes};
 ghost use Rattle.filter_encoding.specs.Words.{Appends, AreListed, AreValid, Begins, CanBeWritten, Fits, HasEncoding};
 ghost use Rattle.filter_encoding.specs.Words.{IsHeldCell, IsPlainCell, IsRefused, IsWritten, Nests, NoEncoding};
 ghost use Rattle.filter_encoding.specs.Words.{OutOfMemory, Writes, cell_of, count_bytes, encoding, formula};
@@ -11,9 +12,11 @@ ghost use Rattle.filter_encoding.specs.Words.{operator_byte, parts_of};
 use crate::error::FilterEncodingError;
 use crate::heads::Head;
 use crate::literals::{append_literal, append_literals};
+use crate::patterns::{append_case, append_pattern};
 use crate::places::append_place;
 use crate::types::append_types;
 use crate::versions::version_of;
+use like_patterns::{Case, Pattern};
 use vortex_dtype::DType;
 use vortex_filter::{CompareOperator, Filter};
 use vortex_value::Scalar;
@@ -120,6 +123,11 @@ fn append_node(filter: &Filter, depth: usize, out: &mut Vec<u8>) -> Result<(), F
             upper,
         } => append_range(*column, lower, upper, out),
         Filter::StartsWith { column, prefix } => append_prefix(*column, prefix, out),
+        Filter::Like {
+            column,
+            pattern,
+            case,
+        } => append_like(*column, pattern, *case, out),
         Filter::And(left, right) => {
             let below = append_connective(Head::And, depth, out)?;
             append_node(left, below, out)?;
@@ -238,4 +246,32 @@ fn append_prefix(
 {
     append_test(Head::StartsWith, column, out)?;
     append_literal(prefix, out)
+}
+
+/// Appends whether a cell matches the pattern.
+fn append_like(
+    column: usize,
+    pattern: &Pattern,
+    case: Case,
+    out: &mut Vec<u8>,
+) -> Result<(), FilterEncodingError>
+    ensures { Writes (Fits column × (IsCase case × AreListed IsPart pattern.now))
+        (16 ∷ (count_bytes column ++ (case_bytes case ++ listed part_bytes pattern.now)))
+        result out.old.items out.new.items }
+{
+    append_test(Head::Like, column, out)?;
+    append_matching(pattern, case, out)
+}
+
+/// Appends the case and the pattern.
+fn append_matching(
+    pattern: &Pattern,
+    case: Case,
+    out: &mut Vec<u8>,
+) -> Result<(), FilterEncodingError>
+    ensures { Writes (IsCase case × AreListed IsPart pattern.now)
+        (case_bytes case ++ listed part_bytes pattern.now) result out.old.items out.new.items }
+{
+    append_case(case, out)?;
+    append_pattern(pattern, out)
 }

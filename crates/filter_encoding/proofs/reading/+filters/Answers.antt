@@ -4,7 +4,7 @@ use Rattle.vortex_filter.specs.Formula.{formula}
 use Rattle.vortex_filter.proofs.Steps.{formula-Constant}
 use Rattle.filter_encoding.specs.Encoding.{node_bytes}
 use Rattle.filter_encoding.specs.Steps.{IsNode}
-use Rattle.filter_encoding.specs.declared.heads.Head.TheVariants.{Constant, Compare, IsNull, In, Between, StartsWith, And, Or, Not}
+use Rattle.filter_encoding.specs.declared.heads.Head.TheVariants.{Constant, Compare, IsNull, In, Between, StartsWith, Like, And, Or, Not}
 use Rattle.filter_encoding.proofs.ReadSteps.{begun, behind, both_read, both_stuck, constant_read, either_read, either_stuck, left_stuck, negation_read, negation_stuck, parts_passed_on, passed_on, right_stuck}
 use Rattle.filter_encoding.proofs.reading.+filters.Goals as goal
 
@@ -28,6 +28,9 @@ read_node-returns-in-Between-clause-read t c = behind c.args.depth _ _ _ _ _ (be
 
 pub read_node-returns-in-StartsWith-clause-read : goal.read_node-returns-in-StartsWith-clause-read
 read_node-returns-in-StartsWith-clause-read t c = behind c.args.depth _ _ _ _ _ (begun c.args.depth _ StartsWith _ _ c.in-StartsWith.is c.in_ok-head.ensures).0 (c.read_prefix.ensures.read c.args.depth)
+
+pub read_node-returns-in-Like-clause-read : goal.read_node-returns-in-Like-clause-read
+read_node-returns-in-Like-clause-read t c = behind c.args.depth _ _ _ _ _ (begun c.args.depth _ Like _ _ c.in-Like.is c.in_ok-head.ensures).0 (c.read_like.ensures.read c.args.depth)
 
 pub read_part-returns-in_err-filter-clause-read : goal.read_part-returns-in_err-filter-clause-read
 read_part-returns-in_err-filter-clause-read t c = passed_on node_bytes (IsNode c.args.depth) (λ part. formula part.value) _ _ _ _ c.from_residual.ensures c.in_err-filter.ensures.read

@@ -3,11 +3,11 @@ use Rattle.std.proofs.Common.{◌≡◌, ℕ, ◌+◌, Ok, Result, length, ◌�
 use Rattle.vortex_cells.specs.Cells.{cell_of}
 use Rattle.vortex_filter.specs.Formula.{Formula, formula}
 use Rattle.vortex_filter.specs.declared.filter.Filter.{Filter}
-use Rattle.vortex_filter.proofs.Steps.{formula-And, formula-Between, formula-Compare, formula-In, formula-IsNull, formula-Not, formula-Or, formula-StartsWith}
+use Rattle.vortex_filter.proofs.Steps.{formula-And, formula-Between, formula-Compare, formula-In, formula-IsNull, formula-Like, formula-Not, formula-Or, formula-StartsWith}
 use Rattle.vortex_value.specs.Size.{capped}
 use Rattle.filter_encoding.specs.Encoding.{FirstIn, HasValues, node_bytes}
 use Rattle.filter_encoding.specs.declared.values.NoValue.{NoValue}
-use Rattle.filter_encoding.proofs.NoValueLaws.{FilterPasses, both_passed, both_refused, comparison_passes, either_passed, either_refused, membership_passes, negation_passes, null_passes, prefix_passes, range_passes}
+use Rattle.filter_encoding.proofs.NoValueLaws.{FilterPasses, both_passed, both_refused, comparison_passes, either_passed, either_refused, like_passes, membership_passes, negation_passes, null_passes, prefix_passes, range_passes}
 use Rattle.filter_encoding.proofs.values.+behind_filter.Goals as goal
 
 -- of a filter with this formula
@@ -41,6 +41,11 @@ pub returns-in-StartsWith : goal.returns-in-StartsWith
 returns-in-StartsWith t c =
     of_formula _ _ c.args.offset c.behind_literal-in-StartsWith.result (ap formula c.in-StartsWith.is ∙ formula-StartsWith c.in-StartsWith.column c.in-StartsWith.prefix)
     (prefix_passes c.in-StartsWith.column c.args.offset _ c.behind_literal-in-StartsWith.result (cell_of c.in-StartsWith.prefix) c.saturating_add-in-StartsWith.ensures c.behind_literal-in-StartsWith.ensures)
+
+pub returns-in-Like : goal.returns-in-Like
+returns-in-Like t c =
+    of_formula _ _ c.args.offset (Ok c.behind_pattern.result) (ap formula c.in-Like.is ∙ formula-Like c.in-Like.column c.in-Like.pattern c.in-Like.case)
+    (like_passes c.in-Like.column c.in-Like.case c.in-Like.pattern c.args.offset _ _ c.saturating_add-in-Like.ensures c.behind_pattern.ensures)
 
 pub returns-in-In : goal.returns-in-In
 returns-in-In t c =

@@ -1,7 +1,7 @@
 -- The first byte, and then what the kind has.
 use Rattle.std.proofs.Common.{◌∷◌, [], ap, ◌∙◌, map, refl, sym}
-use Rattle.vortex_filter.specs.Formula.{comparison, constant, formula, membership, null_test, prefix_test, range}
-use Rattle.vortex_filter.proofs.Steps.{formula-Between, formula-Compare, formula-Constant, formula-In, formula-IsNull, formula-StartsWith}
+use Rattle.vortex_filter.specs.Formula.{comparison, constant, formula, membership, null_test, pattern_test, prefix_test, range}
+use Rattle.vortex_filter.proofs.Steps.{formula-Between, formula-Compare, formula-Constant, formula-In, formula-IsNull, formula-Like, formula-StartsWith}
 use Rattle.vortex_cells.specs.Cells.{cell_of}
 use Rattle.filter_encoding.proofs.WriteSteps.{node_written}
 use Rattle.filter_encoding.proofs.writing.+append_node.Goals as goal
@@ -29,3 +29,7 @@ returns-in-Between t c =
 pub returns-in-StartsWith : goal.returns-in-StartsWith
 returns-in-StartsWith t c =
     node_written c.args.depth _ _ _ _ (prefix_test c.in-StartsWith.column (cell_of c.in-StartsWith.prefix)) _ _ _ (ap formula c.in-StartsWith.is ∙ formula-StartsWith c.in-StartsWith.column c.in-StartsWith.prefix) (λ h. h) (λ h. h) refl c.append_prefix.ensures
+
+pub returns-in-Like : goal.returns-in-Like
+returns-in-Like t c =
+    node_written c.args.depth _ _ _ _ (pattern_test c.in-Like.column c.in-Like.case c.in-Like.pattern) _ _ _ (ap formula c.in-Like.is ∙ formula-Like c.in-Like.column c.in-Like.pattern c.in-Like.case) (λ h. h) (λ h. h) refl c.append_like.ensures
