@@ -2,6 +2,7 @@
 
 use case_lines::{same_scalar, same_scalars};
 use filter_sql::Column;
+use like_patterns::Pattern;
 use statistics_calls::same_statistics;
 use vortex_filter::Filter;
 use vortex_statistics::ColumnStatistics;
@@ -63,8 +64,27 @@ fn same_test(a: &Filter, b: &Filter) -> bool {
                 prefix: copy,
             },
         ) => x == y && same_scalar(prefix, copy),
+        (
+            Filter::Like {
+                column: x,
+                pattern,
+                case,
+            },
+            Filter::Like {
+                column: y,
+                pattern: copy,
+                case: other,
+            },
+        ) => x == y && same_pattern(pattern, copy) && case == other,
         _ => false,
     }
+}
+
+/// Whether two patterns have as many parts, and the same ones before the first wildcard.
+fn same_pattern(a: &Pattern, b: &Pattern) -> bool {
+    a.count_parts() == b.count_parts()
+        && a.prefix() == b.prefix()
+        && a.needs_escape() == b.needs_escape()
 }
 
 /// Whether two slices have exactly the same statistics.

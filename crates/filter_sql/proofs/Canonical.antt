@@ -38,6 +38,7 @@ keyword_spelled keywords.Is = refl
 keyword_spelled keywords.Null = refl
 keyword_spelled keywords.Between = refl
 keyword_spelled keywords.Like = refl
+keyword_spelled keywords.Ilike = refl
 keyword_spelled keywords.Escape = refl
 keyword_spelled keywords.True = refl
 keyword_spelled keywords.False = refl
@@ -80,6 +81,7 @@ dark_keyword keywords.Is = record { some = omega arith; dark = refl }
 dark_keyword keywords.Null = record { some = omega arith; dark = refl }
 dark_keyword keywords.Between = record { some = omega arith; dark = refl }
 dark_keyword keywords.Like = record { some = omega arith; dark = refl }
+dark_keyword keywords.Ilike = record { some = omega arith; dark = refl }
 dark_keyword keywords.Escape = record { some = omega arith; dark = refl }
 dark_keyword keywords.True = record { some = omega arith; dark = refl }
 dark_keyword keywords.False = record { some = omega arith; dark = refl }

@@ -1,15 +1,19 @@
 -- What is written character by character, as a text of bytes.
-use Rattle.std.proofs.Common.{◌≡◌, ℕ, zero, suc, ◌<◌, ◌≤◌, ◌^◌, ◌/◌, ◌%◌, ◌==◌, ◌&&◌, Bool, true, false, cond, List, [], ◌∷◌, ◌++◌, length, get_or, codes, encode_utf8, IsUtf8, refl, sym, ap, ◌∙◌, subst, arith, append_assoc, append-nil, ⊎_elim, eqb-true}
+use Rattle.std.proofs.Common.{◌≡◌, ℕ, zero, suc, ◌<◌, ◌≤◌, ◌^◌, ◌/◌, ◌%◌, ◌==◌, ◌&&◌, ◌||◌, Bool, true, false, cond, List, [], ◌∷◌, ◌++◌, Some, length, get_or, codes, encode_utf8, IsUtf8, refl, sym, ap, ◌∙◌, subst, arith, append_assoc, append-nil, ⊎_elim, eqb-true}
 use Rattle.std.specs.Fmt.{decimal, digit_glyph}
-use Rattle.std.specs.List.{flat_map, slice_index}
+use Rattle.std.specs.List.{flat_map, list_any, slice_index}
 use Rattle.std.specs.Str.{chars, encode_utf8_all}
 use Rattle.std.specs.Str.Parse.{AllDigits}
 use Rattle.std.proofs.str.Laws.{order}
 use Rattle.std.proofs.lemmas.Bool.Decides.{nat_tests}
 use Rattle.std.proofs.lemmas.Fmt.{decimal_is_IsNumeral_wide, hex_byte}
-use Rattle.std.proofs.lemmas.Str.{encode_ascii, encodes-chars, inside_one}
+use Rattle.std.proofs.lemmas.List.Folds.{list_any-append}
+use Rattle.std.proofs.lemmas.Str.{encode_ascii, encodes-append, encodes-chars, inside_one}
 use Rattle.std.proofs.lemmas.Str.Parse.{digit_from_value}
 use Rattle.hex.specs.Hex.{encode_lower, encode_with, lower_digits}
+use Rattle.like_patterns.specs.Patterns.{literal, any_string}
+use Rattle.like_patterns.specs.Pieces.{literals}
+use Rattle.like_patterns.specs.Texts.{has_special, part_text, quotable_text, pattern_text as parts_text}
 use Rattle.vortex_value.specs.Texts.{two_digits}
 use Rattle.filter_sql.specs.Tokens.{doubled, quoted}
 use Rattle.filter_sql.specs.Printing.{escaped_byte, is_special, prefix_pattern}
@@ -58,6 +62,15 @@ doubled_characters quote text small utf8 = by_characters (λ b. cond (b == quote
     (λ b high. let other : (b == quote) ≡ false = grind (arith, nat_tests) in rw other refl)
     text utf8
 
+-- the characters of a pattern in quotes
+pub quoted_characters : (cs : List ℕ) → codes "'" ++ (quotable_text (Some 39) cs ++ codes "'") ≡ quoted 39 (encode_utf8_all cs)
+quoted_characters cs =
+    ap (λ (l : List ℕ). 39 ∷ (l ++ 39 ∷ [])) (sym (of_characters (λ b. cond (b == 39) (b ∷ b ∷ []) (b ∷ [])) (quotable 39)
+    (λ c low. rw (encode_ascii c low) refl)
+    (λ c high. let other : (c == 39) ≡ false = grind (arith, nat_tests) in rw other refl)
+    (λ b high. let other : (b == 39) ≡ false = grind (arith, nat_tests) in rw other refl)
+    cs))
+
 -- ---- patterns
 
 doubled_append : (xs ys : List ℕ) → doubled 39 (xs ++ ys) ≡ doubled 39 xs ++ doubled 39 ys
@@ -94,6 +107,70 @@ pattern_text prefix utf8 =
     let all : doubled 39 (prefix_pattern prefix) ≡ flat_map patterned (chars prefix) ++ 37 ∷ []
     = doubled_append (flat_map escaped_byte prefix) (37 ∷ []) ∙ ap (λ (l : List ℕ). l ++ 37 ∷ []) (doubled_escaped prefix ∙ sym inner) in
     sym (ap (λ (l : List ℕ). 39 ∷ (l ++ 39 ∷ [])) all ∙ ap (λ (l : List ℕ). 39 ∷ l) (append_assoc (flat_map patterned (chars prefix)) (37 ∷ []) (39 ∷ [])))
+
+-- a pattern with a % at its end alone, by its characters
+literal_text : ℕ → List ℕ
+literal_text c = encode_utf8_all (part_text (literal c))
+
+literal_low : (c : ℕ) → c < 128 → literal_text c ≡ escaped_byte c
+unfolding literal_text
+literal_low c low = by_test (is_special c) refl
+  where
+    by_test : (special : Bool) → is_special c ≡ special → literal_text c ≡ escaped_byte c
+    by_test true is = let small : 92 < 128 = omega arith in rw (is, encode_ascii 92 small, encode_ascii c low) refl
+    by_test false is = rw (is, encode_ascii c low) refl
+
+literal_high : (c : ℕ) → 128 ≤ c → literal_text c ≡ encode_utf8 c
+unfolding literal_text
+literal_high c high =
+    let special : is_special c ≡ false = grind (arith, nat_tests) in
+    rw special (append-nil (encode_utf8 c))
+
+escaped_plain : (b : ℕ) → 128 ≤ b → escaped_byte b ≡ b ∷ []
+escaped_plain b high =
+    let special : is_special b ≡ false = grind (arith, nat_tests) in
+    rw special refl
+
+-- `%` and `\` are bytes
+percent_text : 37 ∷ [] ≡ encode_utf8_all (37 ∷ [])
+percent_text = let small : 37 < 128 = omega arith in rw (encode_ascii 37 small) refl
+
+pub backslash_text : encode_utf8_all (92 ∷ []) ≡ 92 ∷ []
+backslash_text = let small : 92 < 128 = omega arith in rw (encode_ascii 92 small) refl
+
+literals_text : (cs : List ℕ) → flat_map literal_text cs ++ 37 ∷ [] ≡ encode_utf8_all (parts_text (literals cs ++ any_string ∷ []))
+unfolding literal_text
+literals_text [] = percent_text
+literals_text (c ∷ cs) =
+    append_assoc (literal_text c) (flat_map literal_text cs) (37 ∷ []) ∙ ap (λ (l : List ℕ). literal_text c ++ l) (literals_text cs)
+    ∙ sym (encodes-append (part_text (literal c)) (parts_text (literals cs ++ any_string ∷ [])))
+
+pub prefix_text : (cs : List ℕ) → prefix_pattern (encode_utf8_all cs) ≡ encode_utf8_all (parts_text (literals cs ++ any_string ∷ []))
+prefix_text cs = ap (λ (l : List ℕ). l ++ 37 ∷ []) (of_characters escaped_byte literal_text literal_low literal_high escaped_plain cs) ∙ literals_text cs
+
+-- what is special in them
+plain_byte : (b : ℕ) → 128 ≤ b → is_special b ≡ false
+plain_byte b high = grind (arith, nat_tests)
+
+all_plain : (bs : List ℕ) → ((k : ℕ) → k < length bs → 128 ≤ get_or bs k 0) → list_any is_special bs ≡ false
+all_plain [] high = refl
+all_plain (b ∷ bs) high = rw (plain_byte b (high 0 (omega arith)), all_plain bs (λ k below. high (suc k) (omega arith))) refl
+
+or_none : (b : Bool) → (b || false) ≡ b
+or_none true = refl
+or_none false = refl
+
+special_character : (c : ℕ) → list_any is_special (encode_utf8 c) ≡ is_special c
+special_character c = ⊎_elim
+    (λ small. ap (list_any is_special) (encode_ascii c small) ∙ or_none (is_special c))
+    (λ great. all_plain (encode_utf8 c) (high_bytes c great) ∙ sym (plain_byte c great))
+    (order c 128)
+
+pub special_characters : (cs : List ℕ) → list_any is_special (encode_utf8_all cs) ≡ has_special (literals cs ++ any_string ∷ [])
+special_characters [] = refl
+special_characters (c ∷ cs) =
+    list_any-append is_special (encode_utf8 c) (encode_utf8_all cs)
+    ∙ ap (λ (b : Bool). b || list_any is_special (encode_utf8_all cs)) (special_character c) ∙ ap (λ (b : Bool). is_special c || b) (special_characters cs)
 
 -- ---- bytes
 

@@ -1,15 +1,14 @@
 -- What is written of a column, and which filter it is.
 use Rattle.std.proofs.Common.{◌≡◌, ℕ, Bool, true, false, cond, List, [], ◌∷◌, Option, Some, None, refl, ap, subst, ◌∙◌}
 use Rattle.std.specs.Prelude.{option_and_then, option_map}
-use Rattle.std.proofs.lemmas.Bool.{false≢true}
-use Rattle.vortex_dtype.specs.TypeTree.{TypeTree, binary_type, utf8_type}
+use Rattle.vortex_dtype.specs.TypeTree.{TypeTree}
 use Rattle.vortex_filter.specs.CheckSteps.{holds_strings}
 use Rattle.vortex_filter.specs.Formula.{Formula}
-use Rattle.vortex_filter.specs.Literals.{LiteralTree, position_of, text_in}
+use Rattle.vortex_filter.specs.Literals.{LiteralTree, position_of}
 use Rattle.vortex_filter.specs.Positions.{PositionTree, cells_of, member_among, member_of, prefix_of, range_of}
 use Rattle.filter_sql.specs.Grammar.{AreLiterals, one_literal, more_literals}
 use Rattle.filter_sql.specs.Literals.{between, begun, formula_in, literal_of, positions_of}
-use Rattle.filter_sql.specs.Reading.{string_in, token_position}
+use Rattle.filter_sql.specs.Reading.{token_position}
 use Rattle.filter_sql.specs.Tokens.{TokenTree}
 
 -- ---- steps that did not fail
@@ -66,13 +65,3 @@ between_says k t lower upper p q a b = ap (option_and_then (λ r. option_map (ra
 
 pub begun_says : (k : ℕ) (t : TypeTree) (l : LiteralTree) (p : PositionTree) (f : Formula) → holds_strings t ≡ true → position_of t l ≡ Some p → prefix_of k p ≡ Some f → formula_in k t (begun l) ≡ Some f
 begun_says k t l p f strings stands prefixed = ap (λ b. cond b (option_and_then (prefix_of k) (position_of t l)) None) strings ∙ ap (option_and_then (prefix_of k)) stands ∙ prefixed
-
--- only a column of strings has a string that is sought in its values, and it is what a literal says there
-pub string_said : (t : TypeTree) (bs : List ℕ) (p : PositionTree) → string_in t bs ≡ Some p → (holds_strings t ≡ true) × (text_in t bs ≡ Some p)
-string_said (utf8_type n) bs p e = (refl, e)
-string_said _ bs p e = absurd cc
-
-pub string_same : (t : TypeTree) (bs : List ℕ) → holds_strings t ≡ true → text_in t bs ≡ string_in t bs
-string_same (utf8_type n) bs e = refl
-string_same (binary_type n) bs e = refl
-string_same _ bs e = absurd (false≢true e)

@@ -2,7 +2,12 @@
 use Rattle.std.proofs.Common.{◌≡◌, ◌&&◌, ◌+ℤ◌, ℕ, ℤ, pos, Bool, true, false, cond, List, [], ◌∷◌, ◌++◌, Option, Some, None, refl, ap, subst, ◌∙◌}
 use Rattle.std.specs.Prelude.{option_and_then, option_map, slice_get}
 use Rattle.std.specs.Ordering.{int_cmp}
+use Rattle.std.specs.Str.{encode_utf8_all}
 use Rattle.std.proofs.lemmas.Option.{slice_get-map}
+use Rattle.std.proofs.lemmas.Bool.{false≢true}
+use Rattle.like_patterns.specs.declared.case.Case.{Case}
+use Rattle.like_patterns.specs.Patterns.{Part}
+use Rattle.vortex_dtype.specs.Parts.{is_utf8_type}
 use Rattle.vortex_dtype.specs.TypeTree.{TypeTree, Same, as_nullable, bool_type, integer_type, utf8_type, binary_type, extension_type}
 use Rattle.vortex_dtype.specs.declared.nullability.Nullability.{Nullability}
 use Rattle.vortex_dtype.specs.declared.ptype.PType.{PType}
@@ -17,17 +22,17 @@ use Rattle.logical_types.specs.declared.decimals.places.DecimalPlace.TheVariants
 use Rattle.logical_types.specs.declared.extensions.StorageType.{StorageType}
 use Rattle.logical_types.specs.declared.extensions.StorageType.TheVariants.{I32, I64, Bytes}
 use Rattle.filter_sql.specs.declared.print.Level.{Level}
-use Rattle.vortex_filter.specs.Checking.{Test, tests, HoldsStrings, IsOfType, AllFit, FitsColumns}
+use Rattle.vortex_filter.specs.Checking.{Test, tests, HoldsStrings, HoldsText, IsOfType, AllFit, FitsColumns}
 use Rattle.vortex_filter.specs.CheckSteps.{holds_strings}
 use Rattle.filter_sql.specs.ColumnNames.{ColumnTree, column_named, column_there, typed_place, or_numbered, named_place}
-use Rattle.vortex_filter.specs.Formula.{Formula, negation, null_test, prefix_test}
+use Rattle.vortex_filter.specs.Formula.{Formula, negation, null_test, pattern_test, prefix_test}
 use Rattle.filter_sql.specs.Grammar.{IsPredicate, says_true, says_false, says_null, on_column, prefix_call, IsFilter, predicate, group, not_filter, one_operand, and_filter, one_conjunction, or_filter}
 use Rattle.vortex_filter.specs.Literals.{LiteralTree, null_literal, truth_literal, number_literal, text_literal, bytes_literal, bytes_cell, bytes_in, decimal_at, integer_at, integer_in, logical_cell, null_cell, number_cell, number_in, number_of_shape, position_of, storage_content, text_cell, text_in, text_of_shape, truth_cell, truth_in, written_value}
 use Rattle.vortex_filter.specs.Positions.{PositionTree, exactly, just_above, lacking, comparison_of, member_among, prefix_of, range_of}
-use Rattle.filter_sql.specs.Literals.{Condition, compared, missing, listed, between, begun, denied, formula_in, positions_of}
+use Rattle.filter_sql.specs.Literals.{Condition, compared, missing, listed, between, begun, alike, denied, formula_in, like_test, positions_of, prefix_asked, prefix_or}
 use Rattle.filter_sql.specs.Parsing.{types_of, AllOrdered}
 use Rattle.filter_sql.specs.Tokens.{TokenTree}
-use Rattle.vortex_filter.proofs.PositionLaws.{CellFits, CellsFit, comparison_fits, membership_fits, nothing_fits, prefix_fits, range_fits}
+use Rattle.vortex_filter.proofs.PositionLaws.{CellFits, CellsFit, comparison_fits, membership_fits, nothing_fits, pattern_fits, prefix_fits, range_fits}
 use Rattle.filter_sql.proofs.ConditionSteps.{bind_some, guard_some, map_some, stand_parts}
 
 -- ---- literals
@@ -185,11 +190,24 @@ strings_held (utf8_type n) e = tt
 strings_held (binary_type n) e = tt
 strings_held _ e = absurd cc
 
+-- strings alone
+text_held : (t : TypeTree) → is_utf8_type t ≡ true → HoldsText t
+text_held (utf8_type n) e = tt
+text_held _ e = absurd (false≢true e)
+
+text_fits : (t : TypeTree) (bs : List ℕ) → is_utf8_type t ≡ true → HoldsStrings t × IsOfType t (text_cell bs)
+text_fits (utf8_type n) bs e = (tt, refl)
+text_fits _ bs e = absurd (false≢true e)
+
 module _ (types : List TypeTree) (k : ℕ) (t : TypeTree) (there : slice_get types k ≡ Some t) (ordered : HasNoVariant t) where
   prefixed_fits : (p : PositionTree) (f : Formula) → HoldsStrings t → CellFits t p → prefix_of k p ≡ Some f → FitsColumns types f
   prefixed_fits (exactly x) f strings fits e = let same : prefix_test k x ≡ f = cc in subst (FitsColumns types) same (prefix_fits types k t there ordered x strings fits)
   prefixed_fits (just_above x) f strings fits e = absurd cc
   prefixed_fits (lacking o) f strings fits e = absurd cc
+
+  like_fits : (case : Case) (parts : List Part) (asked : Option (List ℕ)) → is_utf8_type t ≡ true → FitsColumns types (prefix_or k asked (pattern_test k case parts))
+  like_fits case parts None strings = pattern_fits types k t there ordered (text_held t strings)
+  like_fits case parts (Some cs) strings = let fits = text_fits t (encode_utf8_all cs) strings in prefix_fits types k t there ordered (text_cell (encode_utf8_all cs)) fits.0 fits.1
 
   -- what is written of a column fits it
   condition_fits : (c : Condition) (f : Formula) → formula_in k t c ≡ Some f → FitsColumns types f
@@ -208,6 +226,11 @@ module _ (types : List TypeTree) (k : ℕ) (t : TypeTree) (there : slice_get typ
       let g = guard_some (holds_strings t) (option_and_then (prefix_of k) (position_of t l)) f e in
       let a = bind_some (position_of t l) (prefix_of k) f g.1 in
       prefixed_fits a.0 f (strings_held t g.0) (literal_fits t l a.0 a.1) a.2
+  condition_fits (alike case parts) f e =
+      let g = guard_some (is_utf8_type t) (Some (like_test k case parts)) f e in
+      let said : Some (like_test k case parts) ≡ Some f = g.1 in
+      let same : like_test k case parts ≡ f = cc in
+      subst (FitsColumns types) same (like_fits case parts (prefix_asked case parts) g.0)
   condition_fits (denied c) f e = let m = map_some (formula_in k t c) negation f e in subst (FitsColumns types) m.2 (condition_fits c m.0 m.1)
 
 module _ (columns : List ColumnTree) (ordered : AllOrdered columns) where

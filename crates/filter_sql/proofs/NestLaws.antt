@@ -1,21 +1,25 @@
 -- How deep the filter that tokens are nests: of the left one of two operands more may nest than of the right one.
-use Rattle.std.proofs.Common.{◌≡◌, ℕ, suc, ◌+◌, ◌*◌, ◌≤◌, max, Bool, true, false, List, [], ◌∷◌, Some, length, arith, length-append, subst}
+use Rattle.std.proofs.Common.{◌≡◌, ℕ, suc, ◌+◌, ◌*◌, ◌≤◌, max, Bool, true, false, List, [], ◌∷◌, Option, Some, None, length, arith, length-append, subst}
 use Rattle.std.specs.Prelude.{option_and_then, option_map}
+use Rattle.like_patterns.specs.declared.case.Case.{Case}
+use Rattle.like_patterns.specs.declared.case.Case.TheVariants.{Sensitive, Insensitive}
+use Rattle.like_patterns.specs.Patterns.{Part}
+use Rattle.vortex_dtype.specs.Parts.{is_utf8_type}
 use Rattle.vortex_dtype.specs.TypeTree.{TypeTree}
 use Rattle.vortex_cells.specs.Cells.{Cell}
 use Rattle.vortex_filter.specs.declared.operator.CompareOperator.{CompareOperator}
 use Rattle.vortex_filter.specs.declared.operator.CompareOperator.TheVariants.{Eq, NotEq, Gt, Gte, Lt, Lte}
 use Rattle.vortex_filter.specs.CheckSteps.{holds_strings}
-use Rattle.vortex_filter.specs.Formula.{Formula, both, either, negation, null_test, prefix_test}
-use Rattle.vortex_filter.specs.Literals.{LiteralTree, position_of, text_literal}
+use Rattle.vortex_filter.specs.Formula.{Formula, both, either, negation, null_test, pattern_test, prefix_test}
+use Rattle.vortex_filter.specs.Literals.{LiteralTree, position_of}
 use Rattle.vortex_filter.specs.Operators.{holds}
 use Rattle.vortex_filter.specs.Positions.{PositionTree, exactly, just_above, lacking, cells_of, comparison_above, comparison_of, for_values, member_among, member_of, prefix_of, range_of}
 use Rattle.filter_sql.specs.declared.print.Level.{Level}
 use Rattle.filter_sql.specs.declared.print.Level.TheVariants as levels
 use Rattle.filter_sql.specs.declared.token.Keyword.TheVariants as keywords
 use Rattle.filter_sql.specs.ColumnNames.{ColumnTree}
-use Rattle.filter_sql.specs.Grammar.{IsCondition, IsFilter, IsPredicate, IsTest, and_filter, bare_test, between_literals, compares, group, in_literals, in_nothing, is_not_null, is_null, like_escaped, like_pattern, not_filter, not_test, on_column, one_conjunction, one_operand, or_filter, predicate, prefix_call, says_false, says_null, says_true}
-use Rattle.filter_sql.specs.Literals.{Condition, begun, formula_in, missing, positions_of}
+use Rattle.filter_sql.specs.Grammar.{IsCondition, IsFilter, IsPredicate, IsTest, and_filter, bare_test, between_literals, compares, group, in_literals, in_nothing, ilike_pattern, is_not_null, is_null, like_pattern, not_filter, not_test, on_column, one_conjunction, one_operand, or_filter, predicate, prefix_call, says_false, says_null, says_true}
+use Rattle.filter_sql.specs.Literals.{Condition, begun, formula_in, like_in, like_test, missing, positions_of, prefix_asked, prefix_or}
 use Rattle.filter_sql.specs.Tokens.{TokenTree, closing, keyword_token}
 use Rattle.filter_sql.proofs.ConditionSteps.{bind_some, guard_some, map_some}
 
@@ -88,6 +92,17 @@ begun-height k t l f e =
     let a = bind_some (position_of t l) (prefix_of k) f g.1 in
     prefix-height k a.0 f a.2
 
+asked-height : (k : ℕ) (case : Case) (parts : List Part) (asked : Option (List ℕ)) → height (prefix_or k asked (pattern_test k case parts)) ≤ 0
+asked-height k case parts None = omega arith
+asked-height k case parts (Some bs) = omega arith
+
+like-height : (k : ℕ) (t : TypeTree) (case : Case) (parts : List Part) (f : Formula) → like_in k t case parts ≡ Some f → height f ≤ 0
+like-height k t case parts f e =
+    let g = guard_some (is_utf8_type t) (Some (like_test k case parts)) f e in
+    let said : Some (like_test k case parts) ≡ Some f = g.1 in
+    let same : like_test k case parts ≡ f = cc in
+    subst (λ (h : Formula). height h ≤ 0) same (asked-height k case parts (prefix_asked case parts))
+
 module _ (k : ℕ) (t : TypeTree) where
   listed-height : (ls : List LiteralTree) (f : Formula) → option_map (member_among k) (positions_of t ls) ≡ Some f → height f ≤ 1
   listed-height ls f e =
@@ -125,11 +140,11 @@ module _ (k : ℕ) (t : TypeTree) where
   test-low (between_literals {x} {y} {lower} {upper} p q) f e =
       let low = between-height lower upper f e in
       record { high = low; tokens = omega (arith, low) }
-  test-low (like_pattern {pattern} {bs} p u) f e =
-      let low = begun-height k t (text_literal bs) f e in
+  test-low (like_pattern {pattern} {ts} {escape} {parts} d p) f e =
+      let low = like-height k t Sensitive parts f e in
       record { high = omega (arith, low); tokens = omega (arith, low) }
-  test-low (like_escaped {pattern} {bs} p u) f e =
-      let low = begun-height k t (text_literal bs) f e in
+  test-low (ilike_pattern {pattern} {ts} {escape} {parts} d p) f e =
+      let low = like-height k t Insensitive parts f e in
       record { high = omega (arith, low); tokens = omega (arith, low) }
 
   -- a test, and one that is denied

@@ -1,6 +1,11 @@
 -- The text that is printed part by part is the text of the tokens.
 use Rattle.std.proofs.Common.{◌≡◌, ℕ, pos, negsuc, Bool, true, false, List, [], ◌∷◌, ◌++◌, Option, Some, None, drop, codes, refl, sym, ap, ◌∙◌, append_assoc, append-nil}
 use Rattle.std.specs.List.{list_any}
+use Rattle.std.specs.Str.{encode_utf8_all}
+use Rattle.like_patterns.specs.declared.case.Case.{Case}
+use Rattle.like_patterns.specs.declared.case.Case.TheVariants.{Sensitive, Insensitive}
+use Rattle.like_patterns.specs.Patterns.{Part}
+use Rattle.like_patterns.specs.Texts.{has_special, pattern_text}
 use Rattle.vortex_cells.specs.Cells.{Cell}
 use Rattle.vortex_value.specs.Values.Content.{Content, null, truth, whole, text, string, sequence, tagged, typed}
 use Rattle.vortex_filter.specs.declared.operator.CompareOperator.{CompareOperator}
@@ -9,11 +14,12 @@ use Rattle.filter_sql.specs.declared.print.Level.TheVariants as levels
 use Rattle.filter_sql.specs.declared.token.Keyword.{Keyword}
 use Rattle.filter_sql.specs.declared.token.Keyword.TheVariants as keywords
 use Rattle.vortex_filter.specs.declared.truth.Truth.TheVariants as truths
-use Rattle.vortex_filter.specs.Formula.{Formula, constant, comparison, null_test, membership, range, prefix_test, both, either, negation}
+use Rattle.vortex_filter.specs.Formula.{Formula, constant, comparison, null_test, membership, range, prefix_test, pattern_test, both, either, negation}
 use Rattle.filter_sql.specs.Tokens.{TokenTree, keyword_token, string_token, operator_token, opening, closing, comma, canonical, gap, is_close_behind, is_opening, is_starts_with, keyword_text, quoted, spelling}
+use Rattle.filter_sql.specs.Literals.{like_keyword}
 use Rattle.filter_sql.specs.LiteralWords.{LiteralWords, WordTree, bare_word, first_word, quoted_word, words_behind}
-use Rattle.filter_sql.specs.Printing.{column_token, comparison_tokens, content_token, escape_tokens, grouped, groups_and, groups_or, is_special, like_tokens, printed_content, literal_token, literal_tokens, membership_tokens, null_test_tokens, prefix_pattern, prefix_tokens, range_tokens, starts_with_tokens, tokens_at}
-use Rattle.filter_sql.specs.Pieces.{comparison_text, group_text, like_text, literal_text, literals_text, membership_text, null_test_text, prefix_text, range_text, starts_with_text, text_at}
+use Rattle.filter_sql.specs.Printing.{column_token, comparison_tokens, content_token, escape_tokens, grouped, groups_and, groups_or, is_special, like_tokens, printed_content, literal_token, literal_tokens, membership_tokens, null_test_tokens, pattern_tokens, prefix_pattern, prefix_tokens, range_tokens, starts_with_tokens, tokens_at}
+use Rattle.filter_sql.specs.Pieces.{column_text, comparison_text, escape_text, group_text, like_text, like_word, literal_text, literals_text, membership_text, null_test_text, pattern_test_text, prefix_text, range_text, starts_with_text, text_at}
 
 -- ---- two lists, one behind the other
 
@@ -204,12 +210,28 @@ module _ (names : List (List ℕ)) (k : ℕ) where
       by_test : (special : Bool) → list_any is_special prefix ≡ special → IsPrinted (like_tokens (column_token names k) prefix) (like_text names k prefix)
       by_test true is = record {
         text = rw is refl;
-        phrase = column_phrase (keyword_token keywords.Like ∷ string_token (prefix_pattern prefix) ∷ escape_tokens prefix) (rw is refl);
+        phrase = column_phrase (keyword_token keywords.Like ∷ string_token (prefix_pattern prefix) ∷ escape_tokens (list_any is_special prefix)) (rw is refl);
       }
       by_test false is = record {
         text = rw is (ap (λ (l : List ℕ). spelling (column_token names k) ++ (codes " like " ++ l)) (sym (append-nil (quoted 39 (prefix_pattern prefix)))));
-        phrase = column_phrase (keyword_token keywords.Like ∷ string_token (prefix_pattern prefix) ∷ escape_tokens prefix) (rw is refl);
+        phrase = column_phrase (keyword_token keywords.Like ∷ string_token (prefix_pattern prefix) ∷ escape_tokens (list_any is_special prefix)) (rw is refl);
       }
+
+  -- a pattern, and that `\` escapes in it
+  compared_printed : (case : Case) (pattern : List ℕ) (special : Bool) → IsPrinted (column_token names k ∷ keyword_token (like_keyword case) ∷ string_token pattern ∷ escape_tokens special) (column_text names k ++ (like_word case ++ (quoted 39 pattern ++ escape_text special)))
+  compared_printed Sensitive pattern true = record { text = refl; phrase = column_phrase (keyword_token keywords.Like ∷ string_token pattern ∷ escape_tokens true) refl }
+  compared_printed Insensitive pattern true = record { text = refl; phrase = column_phrase (keyword_token keywords.Ilike ∷ string_token pattern ∷ escape_tokens true) refl }
+  compared_printed Sensitive pattern false = record {
+    text = ap (λ (l : List ℕ). spelling (column_token names k) ++ (codes " like " ++ l)) (sym (append-nil (quoted 39 pattern)));
+    phrase = column_phrase (keyword_token keywords.Like ∷ string_token pattern ∷ escape_tokens false) refl;
+  }
+  compared_printed Insensitive pattern false = record {
+    text = ap (λ (l : List ℕ). spelling (column_token names k) ++ (codes " ilike " ++ l)) (sym (append-nil (quoted 39 pattern)));
+    phrase = column_phrase (keyword_token keywords.Ilike ∷ string_token pattern ∷ escape_tokens false) refl;
+  }
+
+  pattern_test_printed : (case : Case) (parts : List Part) → IsPrinted (column_token names k ∷ pattern_tokens case parts) (pattern_test_text names k case parts)
+  pattern_test_printed case parts = compared_printed case (encode_utf8_all (pattern_text parts)) (has_special parts)
 
   starts_with_printed : (w : Option WordTree) (x : Cell) → IsPrinted (starts_with_tokens (column_token names k) (literal_token w x)) (starts_with_text names k (literal_text w x))
   starts_with_printed w x = record {
@@ -245,6 +267,7 @@ printed names ws level (null_test k) = null_test_printed names k false
 printed names ws level (membership k xs) = membership_printed names k false ws xs
 printed names ws level (range k x y) = range_printed names k false ws x y
 printed names ws level (prefix_test k x) = prefix_printed names k (first_word ws) x x.content
+printed names ws level (pattern_test k case parts) = pattern_test_printed names k case parts
 printed names ws level (both p q) = grouped_printed (groups_and level) _ _ (joined_printed _ _ keywords.And _ _ refl (printed names ws levels.Not p) (printed names (words_behind p ws) levels.And q))
 printed names ws level (either p q) = grouped_printed (groups_or level) _ _ (joined_printed _ _ keywords.Or _ _ refl (printed names ws levels.And p) (printed names (words_behind p ws) levels.Or q))
 printed names ws level (negation (constant t)) = denied_printed _ _ (printed names ws levels.Not (constant t))
@@ -253,6 +276,7 @@ printed names ws level (negation (null_test k)) = null_test_printed names k true
 printed names ws level (negation (membership k xs)) = membership_printed names k true ws xs
 printed names ws level (negation (range k x y)) = range_printed names k true ws x y
 printed names ws level (negation (prefix_test k x)) = denied_printed _ _ (printed names ws levels.Not (prefix_test k x))
+printed names ws level (negation (pattern_test k case parts)) = denied_printed _ _ (printed names ws levels.Not (pattern_test k case parts))
 printed names ws level (negation (both p q)) = denied_printed _ _ (printed names ws levels.Not (both p q))
 printed names ws level (negation (either p q)) = denied_printed _ _ (printed names ws levels.Not (either p q))
 printed names ws level (negation (negation p)) = denied_printed _ _ (printed names ws levels.Not (negation p))

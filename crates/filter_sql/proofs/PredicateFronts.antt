@@ -1,24 +1,27 @@
 -- What is read of predicates is in the grammar.
-use Rattle.std.proofs.Common.{◌≡◌, ◌⊎◌, inl, inr, ℕ, Bool, true, false, List, [], ◌∷◌, ◌++◌, Option, Some, None, refl, sym, ap, subst, ◌∙◌, append_assoc}
+use Rattle.std.proofs.Common.{◌≡◌, ◌⊎◌, inl, inr, ℕ, true, List, [], ◌∷◌, ◌++◌, Option, Some, None, refl, sym, ap, subst, ◌∙◌, append_assoc}
 use Rattle.std.specs.Prelude.{option_map}
-use Rattle.std.specs.Str.{bytes_eq, is_utf8}
+use Rattle.std.specs.Str.{chars}
 use Rattle.std.proofs.lemmas.List.{append-nil}
-use Rattle.std.proofs.lemmas.Slice.Eq.{bytes_eq-Decides}
+use Rattle.like_patterns.specs.declared.case.Case.{Case}
+use Rattle.like_patterns.specs.declared.case.Case.TheVariants.{Sensitive, Insensitive}
+use Rattle.like_patterns.specs.Patterns.{Part}
+use Rattle.like_patterns.specs.Texts.{pattern_of}
 use Rattle.vortex_dtype.specs.TypeTree.{TypeTree}
 use Rattle.vortex_cells.specs.Cells.{Cell}
 use Rattle.vortex_filter.specs.declared.operator.CompareOperator.{CompareOperator}
-use Rattle.filter_sql.specs.declared.token.Keyword.TheVariants.{And, Not, In, Is, Null, Between, Like, Escape, True, False, StartsWith}
+use Rattle.filter_sql.specs.declared.token.Keyword.TheVariants.{And, Not, In, Is, Null, Between, Like, Ilike, Escape, True, False, StartsWith}
 use Rattle.vortex_filter.specs.declared.truth.Truth.TheVariants as truths
 use Rattle.filter_sql.specs.ColumnNames.{ColumnTree, column_named}
 use Rattle.vortex_filter.specs.Formula.{Formula, constant, null_test, membership, negation}
 use Rattle.vortex_filter.specs.CheckSteps.{holds_strings}
-use Rattle.vortex_filter.specs.Literals.{LiteralTree, text_literal}
+use Rattle.vortex_filter.specs.Literals.{LiteralTree}
 use Rattle.vortex_filter.specs.Positions.{PositionTree, cells_of, comparison_of, member_among, member_of, prefix_of, range_of}
-use Rattle.filter_sql.specs.Literals.{Condition, compared, missing, listed, between, begun, denied, formula_in, pattern_prefix, positions_of}
-use Rattle.filter_sql.specs.Grammar.{AreLiterals, one_literal, more_literals, IsTest, in_nothing, in_literals, between_literals, like_pattern, like_escaped, IsCondition, compares, is_null, is_not_null, bare_test, not_test, IsPredicate, says_true, says_false, says_null, on_column, prefix_call}
+use Rattle.filter_sql.specs.Literals.{Condition, compared, missing, listed, between, alike, denied, formula_in, like_in, like_keyword, positions_of}
+use Rattle.filter_sql.specs.Grammar.{AreLiterals, one_literal, more_literals, IsTest, in_nothing, in_literals, between_literals, IsEscape, unescaped, escaped_by, like_pattern, ilike_pattern, IsCondition, compares, is_null, is_not_null, bare_test, not_test, IsPredicate, says_true, says_false, says_null, on_column, prefix_call}
 use Rattle.filter_sql.specs.Tokens.{TokenTree, keyword_token, name_token, string_token, operator_token, opening, closing, comma}
-use Rattle.filter_sql.specs.Reading.{◌>>=◌, chosen, Read, after_keyword, after_opening, after_closing, after_comma, operator_at, name_at, string_at, string_in, position_at, token_position, preceded, more_cells, cells_at, members_from, members_at, range_at, backslash, escape_at, text_prefix, like_at, test_at, comparison_at, null_test_at, negated, condition_at, condition_of, prefix_in, prefix_call_at, constant_at, predicate_at}
-use Rattle.filter_sql.proofs.ConditionSteps.{begun_says, between_says, bind_some, guard_some, some_members, stand_more, string_said, token_stands}
+use Rattle.filter_sql.specs.Reading.{◌>>=◌, chosen, Read, after_keyword, after_opening, after_closing, after_comma, operator_at, name_at, string_at, position_at, token_position, preceded, more_cells, cells_at, members_from, members_at, range_at, only_one, escape_then, escape_at, like_at, test_at, comparison_at, null_test_at, negated, condition_at, condition_of, prefix_in, prefix_call_at, constant_at, predicate_at}
+use Rattle.filter_sql.proofs.ConditionSteps.{begun_says, between_says, bind_some, guard_some, some_members, stand_more, token_stands}
 use Rattle.filter_sql.proofs.TestSteps.{literal_came}
 use Rattle.filter_sql.proofs.PredicateLaws.{cells_front}
 use Rattle.filter_sql.proofs.Words.{keyword_came, opening_came, closing_came, comma_came, some_is}
@@ -178,63 +181,76 @@ module _ (k : ℕ) (t : TypeTree) (f : Formula) (rest : List TokenTree) where
       (begins ∙ ap (λ (r : List TokenTree). keyword_token Between ∷ r) (low.whole ∙ ap (λ (r : List TokenTree). low.token ∷ r) (word ∙ ap (λ (r : List TokenTree). keyword_token And ∷ r) high.whole)))
       (between_literals {x = low.token} {y = high.token} {lower = from.0} {upper = to.0} from.1 to.1) (between_says k t from.0 to.0 a.0.0 c.0.0 from.2 to.2) (pair_parts (range_of k a.0.0 c.0.0) f c.0.1 rest c.2)
 
--- whether a backslash escapes, and what follows
-abbrev Escapes : List TokenTree → Bool → List TokenTree → Type 0
-Escapes ts escapes us = ((escapes ≡ false) × (ts ≡ us)) ⊎ ((escapes ≡ true) × (ts ≡ keyword_token Escape ∷ string_token (92 ∷ []) ∷ us))
+-- the escape that a front of the tokens is, or none
+record EscapeFront (ts : List TokenTree) (escape : Option ℕ) (us : List TokenTree) : Type 0 where
+  front : List TokenTree
+  whole : ts ≡ front ++ us
+  is : IsEscape front escape
 
-escape_came : (ts : List TokenTree) (escapes : Bool) (us : List TokenTree) → escape_at ts ≡ Some (escapes, us) → Escapes ts escapes us
+record EscapeSome (o : Option ℕ) (ts : List TokenTree) (escape : Option ℕ) (us : List TokenTree) : Type 0 where
+  character : ℕ
+  is : o ≡ Some character
+  escape_is : ◌≡◌ {A = Option ℕ} (Some character) escape
+  rest : ts ≡ us
+
+escape_some : (o : Option ℕ) (ts : List TokenTree) (escape : Option ℕ) (us : List TokenTree) → escape_then o ts ≡ Some (escape, us) → EscapeSome o ts escape us
+escape_some None ts escape us e = absurd cc
+escape_some (Some c) ts escape us e =
+    let made : Option ℕ = Some c in
+    let same = pair_parts made escape ts us e in
+    record { character = c; is = refl; escape_is = same.0; rest = same.1 }
+
+only_came : (cs : List ℕ) (c : ℕ) → only_one cs ≡ Some c → cs ≡ c ∷ []
+only_came [] c e = absurd cc
+only_came (d ∷ []) c e = ap (λ (x : ℕ). x ∷ []) (some_is d c e)
+only_came (d ∷ x ∷ cs) c e = absurd cc
+
+escape_came : (ts : List TokenTree) (escape : Option ℕ) (us : List TokenTree) → escape_at ts ≡ Some (escape, us) → EscapeFront ts escape us
 unfolding escape_at
-escape_came ts escapes us e =
-    elim (chosen_some (after_keyword Escape ts) (λ vs. string_at vs >>= λ x. backslash x.0 x.1) (Some (false, ts)) (escapes, us) e) [
+escape_came ts escape us e =
+    let none : Option ℕ = None in
+    elim (chosen_some (after_keyword Escape ts) (λ vs. string_at vs >>= λ x. escape_then (only_one (chars x.0)) x.1) (Some (none, ts)) (escape, us) e) [
       | inl p ↦
-          let a = bind_some (string_at p.0) (λ x. backslash x.0 x.1) (escapes, us) p.2 in
-          let g = guard_some (bytes_eq a.0.0 (92 ∷ [])) (Some (true, a.0.1)) (escapes, us) a.2 in
-          let same = pair_parts true escapes a.0.1 us g.1 in
-          let is : a.0.0 ≡ 92 ∷ [] = (bytes_eq-Decides a.0.0 (92 ∷ [])).0 g.0 in
-          inr (sym same.0, keyword_came Escape ts p.0 p.1 ∙ ap (λ (r : List TokenTree). keyword_token Escape ∷ r) (string_came p.0 a.0.0 a.0.1 a.1 ∙ ap (λ (bs : List ℕ). string_token bs ∷ a.0.1) is ∙ ap (λ (r : List TokenTree). string_token (92 ∷ []) ∷ r) same.1))
-      | inr d ↦ let same = pair_parts false escapes ts us d in inl (sym same.0, same.1)
+          let a = bind_some (string_at p.0) (λ x. escape_then (only_one (chars x.0)) x.1) (escape, us) p.2 in
+          let b = escape_some (only_one (chars a.0.0)) a.0.1 escape us a.2 in
+          record {
+            front = keyword_token Escape ∷ string_token a.0.0 ∷ [];
+            whole = keyword_came Escape ts p.0 p.1 ∙ ap (λ (r : List TokenTree). keyword_token Escape ∷ r) (string_came p.0 a.0.0 a.0.1 a.1 ∙ ap (λ (r : List TokenTree). string_token a.0.0 ∷ r) b.rest);
+            is = subst (λ (o : Option ℕ). IsEscape (keyword_token Escape ∷ string_token a.0.0 ∷ []) o) b.escape_is (escaped_by {bs = a.0.0} {c = b.character} (only_came (chars a.0.0) b.character b.is));
+          }
+      | inr d ↦ let same = pair_parts none escape ts us d in record { front = []; whole = same.1; is = subst (λ (o : Option ℕ). IsEscape [] o) same.0 unescaped }
     ]
 
-record TextPrefix (k : ℕ) (t : TypeTree) (bs : List ℕ) (f : Formula) : Type 0 where
-  utf8 : is_utf8 bs ≡ true
-  says : formula_in k t (begun (text_literal bs)) ≡ Some f
-
-text_came : (k : ℕ) (t : TypeTree) (bs : List ℕ) (f : Formula) → text_prefix k t bs ≡ Some f → TextPrefix k t bs f
-unfolding text_prefix
-text_came k t bs f e =
-    let g = guard_some (is_utf8 bs) (string_in t bs >>= prefix_of k) f e in
-    let a = bind_some (string_in t bs) (prefix_of k) f g.1 in
-    let s = string_said t bs a.0 a.1 in
-    record { utf8 = g.0; says = begun_says k t (text_literal bs) a.0 f s.0 s.1 a.2 }
-
 module _ (k : ℕ) (t : TypeTree) (f : Formula) (rest : List TokenTree) where
-  like_by : (ts : List TokenTree) (pattern bs : List ℕ) (vs : List TokenTree) (escapes : Bool) (us : List TokenTree) (g : Formula) → ts ≡ keyword_token Like ∷ string_token pattern ∷ vs → Escapes vs escapes us → pattern_prefix escapes pattern ≡ Some bs → TextPrefix k t bs g → (g ≡ f) × (us ≡ rest) → TestFront k t ts f rest
-  like_by ts pattern bs vs escapes us g begins (inl plain) prefix text same =
-      test_with k t ts (keyword_token Like ∷ string_token pattern ∷ []) (begun (text_literal bs)) g f us rest
-      (begins ∙ ap (λ (r : List TokenTree). keyword_token Like ∷ string_token pattern ∷ r) plain.1)
-      (like_pattern (subst (λ (b : Bool). pattern_prefix b pattern ≡ Some bs) plain.0 prefix) text.utf8) text.says same
-  like_by ts pattern bs vs escapes us g begins (inr escaped) prefix text same =
-      test_with k t ts (keyword_token Like ∷ string_token pattern ∷ keyword_token Escape ∷ string_token (92 ∷ []) ∷ []) (begun (text_literal bs)) g f us rest
-      (begins ∙ ap (λ (r : List TokenTree). keyword_token Like ∷ string_token pattern ∷ r) escaped.1)
-      (like_escaped (subst (λ (b : Bool). pattern_prefix b pattern ≡ Some bs) escaped.0 prefix) text.utf8) text.says same
+  like_by : (case : Case) (ts : List TokenTree) (pattern : List ℕ) (vs : List TokenTree) (escape : Option ℕ) (us : List TokenTree) (parts : List Part) (g : Formula) → ts ≡ keyword_token (like_keyword case) ∷ string_token pattern ∷ vs → EscapeFront vs escape us
+      → pattern_of escape (chars pattern) ≡ Some parts → like_in k t case parts ≡ Some g → (g ≡ f) × (us ≡ rest) → TestFront k t ts f rest
+  like_by Sensitive ts pattern vs escape us parts g begins e is says same =
+      test_with k t ts (keyword_token Like ∷ string_token pattern ∷ e.front) (alike Sensitive parts) g f us rest (begins ∙ ap (λ (r : List TokenTree). keyword_token Like ∷ string_token pattern ∷ r) e.whole)
+      (like_pattern {pattern = pattern} {ts = e.front} {escape = escape} {parts = parts} e.is is) says same
+  like_by Insensitive ts pattern vs escape us parts g begins e is says same =
+      test_with k t ts (keyword_token Ilike ∷ string_token pattern ∷ e.front) (alike Insensitive parts) g f us rest (begins ∙ ap (λ (r : List TokenTree). keyword_token Ilike ∷ string_token pattern ∷ r) e.whole)
+      (ilike_pattern {pattern = pattern} {ts = e.front} {escape = escape} {parts = parts} e.is is) says same
 
-  like_front : (ts us : List TokenTree) → ts ≡ keyword_token Like ∷ us → like_at k t us ≡ Some (f, rest) → TestFront k t ts f rest
+  like_front : (case : Case) (ts us : List TokenTree) → ts ≡ keyword_token (like_keyword case) ∷ us → like_at k t case us ≡ Some (f, rest) → TestFront k t ts f rest
   unfolding like_at
-  like_front ts us begins e =
-      let a = bind_some (string_at us) (λ pattern. escape_at pattern.1 >>= λ escape. pattern_prefix escape.0 pattern.0 >>= λ bs. text_prefix k t bs >>= λ g. Some (g, escape.1)) (f, rest) e in
-      let b = bind_some (escape_at a.0.1) (λ escape. pattern_prefix escape.0 a.0.0 >>= λ bs. text_prefix k t bs >>= λ g. Some (g, escape.1)) (f, rest) a.2 in
-      let c = bind_some (pattern_prefix b.0.0 a.0.0) (λ bs. text_prefix k t bs >>= λ g. Some (g, b.0.1)) (f, rest) b.2 in
-      let d = bind_some (text_prefix k t c.0) (λ g. Some (g, b.0.1)) (f, rest) c.2 in
-      like_by ts a.0.0 c.0 a.0.1 b.0.0 b.0.1 d.0 (begins ∙ ap (λ (r : List TokenTree). keyword_token Like ∷ r) (string_came us a.0.0 a.0.1 a.1)) (escape_came a.0.1 b.0.0 b.0.1 b.1) c.1 (text_came k t c.0 d.0 d.1) (pair_parts d.0 f b.0.1 rest d.2)
+  like_front case ts us begins e =
+      let a = bind_some (string_at us) (λ pattern. escape_at pattern.1 >>= λ escape. pattern_of escape.0 (chars pattern.0) >>= λ parts. like_in k t case parts >>= λ g. Some (g, escape.1)) (f, rest) e in
+      let b = bind_some (escape_at a.0.1) (λ escape. pattern_of escape.0 (chars a.0.0) >>= λ parts. like_in k t case parts >>= λ g. Some (g, escape.1)) (f, rest) a.2 in
+      let c = bind_some (pattern_of b.0.0 (chars a.0.0)) (λ parts. like_in k t case parts >>= λ g. Some (g, b.0.1)) (f, rest) b.2 in
+      let d = bind_some (like_in k t case c.0) (λ g. Some (g, b.0.1)) (f, rest) c.2 in
+      like_by case ts a.0.0 a.0.1 b.0.0 b.0.1 c.0 d.0 (begins ∙ ap (λ (r : List TokenTree). keyword_token (like_keyword case) ∷ r) (string_came us a.0.0 a.0.1 a.1)) (escape_came a.0.1 b.0.0 b.0.1 b.1) c.1 d.1 (pair_parts d.0 f b.0.1 rest d.2)
 
   test_front : (ts : List TokenTree) → test_at k t ts ≡ Some (f, rest) → TestFront k t ts f rest
   unfolding test_at
   test_front ts e =
-      elim (chosen_some (after_keyword In ts) (members_at k t) (chosen (after_keyword Between ts) (range_at k t) (after_keyword Like ts >>= like_at k t)) (f, rest) e) [
+      elim (chosen_some (after_keyword In ts) (members_at k t) (chosen (after_keyword Between ts) (range_at k t) (chosen (after_keyword Ilike ts) (like_at k t Insensitive) (after_keyword Like ts >>= like_at k t Sensitive))) (f, rest) e) [
         | inl p ↦ members_front k t f rest ts p.0 (keyword_came In ts p.0 p.1) p.2
-        | inr d ↦ elim (chosen_some (after_keyword Between ts) (range_at k t) (after_keyword Like ts >>= like_at k t) (f, rest) d) [
+        | inr d ↦ elim (chosen_some (after_keyword Between ts) (range_at k t) (chosen (after_keyword Ilike ts) (like_at k t Insensitive) (after_keyword Like ts >>= like_at k t Sensitive)) (f, rest) d) [
           | inl q ↦ range_front k t f rest ts q.0 (keyword_came Between ts q.0 q.1) q.2
-          | inr l ↦ let a = bind_some (after_keyword Like ts) (like_at k t) (f, rest) l in like_front ts a.0 (keyword_came Like ts a.0 a.1) a.2
+          | inr i ↦ elim (chosen_some (after_keyword Ilike ts) (like_at k t Insensitive) (after_keyword Like ts >>= like_at k t Sensitive) (f, rest) i) [
+            | inl r ↦ like_front Insensitive ts r.0 (keyword_came Ilike ts r.0 r.1) r.2
+            | inr l ↦ let a = bind_some (after_keyword Like ts) (like_at k t Sensitive) (f, rest) l in like_front Sensitive ts a.0 (keyword_came Like ts a.0 a.1) a.2
+          ]
         ]
       ]
 

@@ -1,23 +1,27 @@
 -- What is in the grammar is read.
-use Rattle.std.proofs.Common.{◌≡◌, ℕ, Bool, true, false, List, [], ◌∷◌, ◌++◌, Some, None, refl, sym, ap, ◌∙◌, append_assoc}
+use Rattle.std.proofs.Common.{◌≡◌, ℕ, true, List, [], ◌∷◌, ◌++◌, Option, Some, None, refl, ap, ◌∙◌, append_assoc}
 use Rattle.std.specs.Prelude.{option_and_then, option_map}
-use Rattle.std.specs.Str.{is_utf8}
+use Rattle.std.specs.Str.{chars}
 use Rattle.std.proofs.lemmas.List.{append-nil}
+use Rattle.like_patterns.specs.declared.case.Case.{Case}
+use Rattle.like_patterns.specs.declared.case.Case.TheVariants.{Sensitive, Insensitive}
+use Rattle.like_patterns.specs.Patterns.{Part}
+use Rattle.like_patterns.specs.Texts.{pattern_of}
 use Rattle.vortex_dtype.specs.TypeTree.{TypeTree}
 use Rattle.vortex_cells.specs.Cells.{Cell}
 use Rattle.vortex_filter.specs.declared.operator.CompareOperator.{CompareOperator}
 use Rattle.filter_sql.specs.declared.print.Level.TheVariants as levels
-use Rattle.filter_sql.specs.declared.token.Keyword.TheVariants.{And, Not, In, Is, Null, Between, Like, Escape, StartsWith}
+use Rattle.filter_sql.specs.declared.token.Keyword.TheVariants.{And, Not, In, Is, Null, Between, Like, Ilike, Escape, StartsWith}
 use Rattle.filter_sql.specs.ColumnNames.{ColumnTree, column_named}
 use Rattle.vortex_filter.specs.CheckSteps.{holds_strings}
 use Rattle.vortex_filter.specs.Formula.{Formula, null_test, membership, negation}
-use Rattle.vortex_filter.specs.Literals.{LiteralTree, position_of, text_in, text_literal}
+use Rattle.vortex_filter.specs.Literals.{LiteralTree, position_of}
 use Rattle.vortex_filter.specs.Positions.{PositionTree, exactly, just_above, lacking, cells_of, comparison_of, member_among, member_of, prefix_of, range_of}
-use Rattle.filter_sql.specs.Literals.{Condition, begun, formula_in, literal_of, pattern_prefix, positions_of}
-use Rattle.filter_sql.specs.Grammar.{AreLiterals, one_literal, more_literals, IsTest, in_nothing, in_literals, between_literals, like_pattern, like_escaped, IsCondition, compares, is_null, is_not_null, bare_test, not_test, IsPredicate, says_true, says_false, says_null, on_column, prefix_call}
+use Rattle.filter_sql.specs.Literals.{Condition, formula_in, like_in, literal_of, positions_of}
+use Rattle.filter_sql.specs.Grammar.{AreLiterals, one_literal, more_literals, IsTest, in_nothing, in_literals, between_literals, IsEscape, unescaped, escaped_by, like_pattern, ilike_pattern, IsCondition, compares, is_null, is_not_null, bare_test, not_test, IsPredicate, says_true, says_false, says_null, on_column, prefix_call}
 use Rattle.filter_sql.specs.Tokens.{TokenTree, keyword_token, name_token, number_token, string_token, bytes_token, operator_token, opening, closing, comma, verbatim}
-use Rattle.filter_sql.specs.Reading.{Read, after_keyword, after_opening, after_closing, after_comma, operator_at, name_at, string_at, string_in, position_at, token_position, more_cells, cells_at, members_at, range_at, escape_at, text_prefix, like_at, test_at, comparison_at, null_test_at, negated, condition_at, prefix_in, prefix_call_at, constant_at, predicate_at}
-use Rattle.filter_sql.proofs.ConditionSteps.{bind_some, guard_some, map_some, position_said, some_members, stand_parts, string_same}
+use Rattle.filter_sql.specs.Reading.{Read, after_keyword, after_opening, after_closing, after_comma, operator_at, name_at, string_at, position_at, token_position, more_cells, cells_at, members_at, range_at, escape_at, like_at, test_at, comparison_at, null_test_at, negated, condition_at, prefix_in, prefix_call_at, constant_at, predicate_at}
+use Rattle.filter_sql.proofs.ConditionSteps.{bind_some, guard_some, map_some, position_said, some_members, stand_parts}
 use Rattle.filter_sql.proofs.TestSteps.{comma_more}
 use Rattle.filter_sql.proofs.Words.{MayFollow, no_escape, some_is}
 
@@ -73,21 +77,23 @@ members_read k t {ts} {ls} d ps e rest =
     members_at_cells k t (ts ++ closing ∷ rest) (cells_of ps) rest (literals_not_closing d (closing ∷ rest)) (literals_read t d ps e rest)
     ∙ ap (λ (f : Formula). Some (f, rest)) (some_members k t d ps e)
 
-plain_read : (rest : List TokenTree) → after_keyword Escape rest ≡ None → escape_at rest ≡ Some (false, rest)
+plain_read : (rest : List TokenTree) → after_keyword Escape rest ≡ None → escape_at rest ≡ Some (None, rest)
 unfolding escape_at
 plain_read rest none = rw none refl
 
-escaped_read : (rest : List TokenTree) → escape_at (keyword_token Escape ∷ string_token (92 ∷ []) ∷ rest) ≡ Some (true, rest)
+escaped_read : (bs : List ℕ) (c : ℕ) (rest : List TokenTree) → chars bs ≡ c ∷ [] → escape_at (keyword_token Escape ∷ string_token bs ∷ rest) ≡ Some (Some c, rest)
 unfolding escape_at after_keyword string_at
-escaped_read rest = refl
+escaped_read bs c rest one = rw one refl
 
-prefix_read : (k : ℕ) (t : TypeTree) (bs : List ℕ) (f : Formula) → is_utf8 bs ≡ true → option_and_then (prefix_of k) (string_in t bs) ≡ Some f → text_prefix k t bs ≡ Some f
-unfolding text_prefix
-prefix_read k t bs f utf8 says = rw utf8 says
+escape_reads : {ts : List TokenTree} {escape : Option ℕ} → IsEscape ts escape → (rest : List TokenTree) → after_keyword Escape rest ≡ None → escape_at (ts ++ rest) ≡ Some (escape, rest)
+escape_reads unescaped rest none = plain_read rest none
+escape_reads (escaped_by {bs} {c} one) rest none = escaped_read bs c rest one
 
-like_read : (k : ℕ) (t : TypeTree) (pattern bs : List ℕ) (f : Formula) (escapes : Bool) (ts rest : List TokenTree) → escape_at ts ≡ Some (escapes, rest) → pattern_prefix escapes pattern ≡ Some bs → text_prefix k t bs ≡ Some f → like_at k t (string_token pattern ∷ ts) ≡ Some (f, rest)
+like_read : (k : ℕ) (t : TypeTree) (case : Case) (pattern : List ℕ) (parts : List Part) (f : Formula) (escape : Option ℕ) (ts rest : List TokenTree) → escape_at ts ≡ Some (escape, rest) → pattern_of escape (chars pattern) ≡ Some parts → like_in k t case parts ≡ Some f → like_at k t case (string_token pattern ∷ ts) ≡ Some (f, rest)
 unfolding like_at string_at
-like_read k t pattern bs f escapes ts rest escape prefix says = rw (escape, prefix, says) refl
+like_read k t case pattern parts f escape ts rest read is says =
+    ap (option_and_then (λ (e : Option ℕ × List TokenTree). option_and_then (λ (ps : List Part). option_and_then (λ (g : Formula). Some (g, e.1)) (like_in k t case ps)) (pattern_of e.0 (chars pattern)))) read
+    ∙ ap (option_and_then (λ (ps : List Part). option_and_then (λ (g : Formula). Some (g, rest)) (like_in k t case ps))) is ∙ ap (option_and_then (λ (g : Formula). Some (g, rest))) says
 
 range_read : (k : ℕ) (t : TypeTree) (x y : TokenTree) (p q : PositionTree) (rest : List TokenTree) → token_position t x ≡ Some p → token_position t y ≡ Some q → range_at k t (x ∷ keyword_token And ∷ y ∷ rest) ≡ Some (range_of k p q, rest)
 unfolding range_at position_at after_keyword
@@ -104,8 +110,8 @@ unfolding operator_at after_keyword
 test_begins in_nothing rest = record { operator = refl; is_word = refl; not_word = refl }
 test_begins (in_literals ls) rest = record { operator = refl; is_word = refl; not_word = refl }
 test_begins (between_literals low high) rest = record { operator = refl; is_word = refl; not_word = refl }
-test_begins (like_pattern p u) rest = record { operator = refl; is_word = refl; not_word = refl }
-test_begins (like_escaped p u) rest = record { operator = refl; is_word = refl; not_word = refl }
+test_begins (like_pattern e p) rest = record { operator = refl; is_word = refl; not_word = refl }
+test_begins (ilike_pattern e p) rest = record { operator = refl; is_word = refl; not_word = refl }
 
 in_test : (k : ℕ) (t : TypeTree) (ts : List TokenTree) → test_at k t (keyword_token In ∷ ts) ≡ members_at k t ts
 unfolding test_at after_keyword
@@ -115,9 +121,13 @@ between_test : (k : ℕ) (t : TypeTree) (ts : List TokenTree) → test_at k t (k
 unfolding test_at after_keyword
 between_test k t ts = refl
 
-like_test : (k : ℕ) (t : TypeTree) (ts : List TokenTree) → test_at k t (keyword_token Like ∷ ts) ≡ like_at k t ts
+like_test : (k : ℕ) (t : TypeTree) (ts : List TokenTree) → test_at k t (keyword_token Like ∷ ts) ≡ like_at k t Sensitive ts
 unfolding test_at after_keyword
 like_test k t ts = refl
+
+ilike_test : (k : ℕ) (t : TypeTree) (ts : List TokenTree) → test_at k t (keyword_token Ilike ∷ ts) ≡ like_at k t Insensitive ts
+unfolding test_at after_keyword
+ilike_test k t ts = refl
 
 nothing_read : (k : ℕ) (t : TypeTree) (rest : List TokenTree) → members_at k t (opening ∷ closing ∷ rest) ≡ Some (membership k [], rest)
 unfolding members_at after_opening after_closing
@@ -128,12 +138,6 @@ read_as : (r : Read) (g f : Formula) (rest : List TokenTree) → r ≡ Some (g, 
 read_as r g f rest read same = read ∙ ap (λ (h : Formula). Some (h, rest)) same
 
 module _ (k : ℕ) (t : TypeTree) where
-  -- a string that a column begins with
-  text_reads : (bs : List ℕ) (f : Formula) → is_utf8 bs ≡ true → formula_in k t (begun (text_literal bs)) ≡ Some f → text_prefix k t bs ≡ Some f
-  text_reads bs f utf8 e =
-      let g = guard_some (holds_strings t) (option_and_then (prefix_of k) (text_in t bs)) f e in
-      prefix_read k t bs f utf8 (sym (ap (option_and_then (prefix_of k)) (string_same t bs g.0)) ∙ g.1)
-
   test_reads : {ts : List TokenTree} {c : Condition} → IsTest ts c → (f : Formula) → formula_in k t c ≡ Some f → (rest : List TokenTree) → MayFollow levels.Not rest → test_at k t (ts ++ rest) ≡ Some (f, rest)
   test_reads in_nothing f e rest follows = read_as _ (membership k []) f rest (in_test k t (opening ∷ closing ∷ rest) ∙ nothing_read k t rest) (some_is (membership k []) f e)
   test_reads (in_literals {ts} {ls} l) f e rest follows =
@@ -145,9 +149,10 @@ module _ (k : ℕ) (t : TypeTree) where
       let b = map_some (position_of t upper) (range_of k a.0) f a.2 in
       read_as _ (range_of k a.0 b.0) f rest
       (between_test k t (x ∷ keyword_token And ∷ y ∷ rest) ∙ range_read k t x y a.0 b.0 rest (position_said t x lower a.0 low a.1) (position_said t y upper b.0 high b.1)) b.2
-  test_reads (like_pattern {pattern} {bs} p u) f e rest follows = like_test k t (string_token pattern ∷ rest) ∙ like_read k t pattern bs f false rest rest (plain_read rest (no_escape follows)) p (text_reads bs f u e)
-  test_reads (like_escaped {pattern} {bs} p u) f e rest follows =
-      like_test k t (string_token pattern ∷ keyword_token Escape ∷ string_token (92 ∷ []) ∷ rest) ∙ like_read k t pattern bs f true (keyword_token Escape ∷ string_token (92 ∷ []) ∷ rest) rest (escaped_read rest) p (text_reads bs f u e)
+  test_reads (like_pattern {pattern} {ts} {escape} {parts} d p) f e rest follows =
+      like_test k t (string_token pattern ∷ (ts ++ rest)) ∙ like_read k t Sensitive pattern parts f escape (ts ++ rest) rest (escape_reads d rest (no_escape follows)) p e
+  test_reads (ilike_pattern {pattern} {ts} {escape} {parts} d p) f e rest follows =
+      ilike_test k t (string_token pattern ∷ (ts ++ rest)) ∙ like_read k t Insensitive pattern parts f escape (ts ++ rest) rest (escape_reads d rest (no_escape follows)) p e
 
 comparison_read : (k : ℕ) (t : TypeTree) (op : CompareOperator) (x : TokenTree) (p : PositionTree) (rest : List TokenTree) → token_position t x ≡ Some p → condition_at k t (operator_token op ∷ x ∷ rest) ≡ Some (comparison_of k op p, rest)
 unfolding condition_at operator_at comparison_at position_at

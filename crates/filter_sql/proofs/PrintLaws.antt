@@ -1,17 +1,24 @@
 -- A printed filter is in the grammar.
-use Rattle.std.proofs.Common.{◌≡◌, ◌↔◌, ◌⊎◌, inl, inr, ◌≤◌, ◌<◌, ◌-◌, ◌^◌, ◌==◌, ◌||◌, ◌&&◌, ℕ, suc, max, ℤ, pos, negsuc, Bool, true, false, cond, List, [], ◌∷◌, ◌++◌, drop, Option, Some, None, option_and_then, unsigned_abs, append-nil, refl, sym, ap, subst, ◌∙◌, arith}
+use Rattle.std.proofs.Common.{◌≡◌, ◌↔◌, inl, inr, ◌≤◌, ◌<◌, ◌-◌, ◌^◌, ◌&&◌, ℕ, suc, max, ℤ, pos, negsuc, Bool, true, false, cond, List, [], ◌∷◌, ◌++◌, drop, Option, Some, None, option_and_then, unsigned_abs, append-nil, refl, sym, ap, subst, ◌∙◌, arith}
 use Rattle.std.specs.Prelude.{option_map}
-use Rattle.std.specs.List.{AllByRecursion, flat_map, list_any}
+use Rattle.std.specs.List.{AllByRecursion, list_any}
 use Rattle.std.specs.Fmt.{decimal}
 use Rattle.std.specs.Ordering.{int_cmp}
-use Rattle.std.specs.Str.{IsUtf8}
+use Rattle.std.specs.Str.{IsUtf8, all_scalars, chars, encode_utf8_all}
+use lib.Utf8.{scalar}
 use Rattle.std.specs.Str.Parse.{IsNumeral}
 use Rattle.std.proofs.Math.Nat.{le-max_left, le-max_right}
 use Rattle.std.proofs.lemmas.Bool.{ltb-true}
 use Rattle.std.proofs.lemmas.Fmt.{decimal_is_IsNumeral}
-use Rattle.std.proofs.lemmas.List.Concat.{flat_map-cons}
-use Rattle.std.proofs.lemmas.Str.{is_utf8-from_IsUtf8}
+use Rattle.std.proofs.lemmas.Str.{chars-encodes}
+use Rattle.like_patterns.specs.declared.case.Case.{Case}
+use Rattle.like_patterns.specs.declared.case.Case.TheVariants.{Sensitive, Insensitive}
+use Rattle.like_patterns.specs.Patterns.{Part, literal, any_string}
+use Rattle.like_patterns.specs.Pieces.{literals}
+use Rattle.like_patterns.specs.Texts.{has_special, part_text, pattern_of, pattern_text}
+use Rattle.like_patterns.specs.Laws.{PlainTextsComeBack, TextsComeBack}
 use Rattle.vortex_dtype.specs.TypeTree.{TypeTree, bool_type, integer_type, utf8_type, binary_type, extension_type}
+use Rattle.vortex_dtype.specs.declared.nullability.Nullability.{Nullability}
 use Rattle.vortex_dtype.specs.declared.nullability.Nullability.TheVariants.{NonNullable}
 use Rattle.vortex_dtype.specs.declared.ptype.PType.{PType}
 use Rattle.vortex_dtype.specs.declared.ptype.PType.TheVariants.{U8, U16, U32, U64, I8, I16, I32, I64}
@@ -36,22 +43,23 @@ use Rattle.filter_sql.specs.declared.print.Level.TheVariants as levels
 use Rattle.filter_sql.specs.declared.token.Keyword.TheVariants as keywords
 use Rattle.vortex_filter.specs.declared.truth.Truth.TheVariants as truths
 use Rattle.filter_sql.specs.ColumnNames.{ColumnTree}
-use Rattle.vortex_filter.specs.Formula.{Formula, constant, comparison, null_test, membership, range, prefix_test, both, either, negation}
-use Rattle.filter_sql.specs.Grammar.{AreLiterals, one_literal, more_literals, IsTest, in_nothing, in_literals, between_literals, like_pattern, like_escaped, IsCondition, compares, is_null, is_not_null, bare_test, not_test, IsPredicate, says_true, says_false, says_null, on_column, prefix_call, IsFilter, predicate, group, not_filter, one_operand, and_filter, one_conjunction, or_filter}
+use Rattle.vortex_filter.specs.Formula.{Formula, constant, comparison, null_test, membership, range, prefix_test, pattern_test, both, either, negation}
+use Rattle.filter_sql.specs.Grammar.{AreLiterals, one_literal, more_literals, IsTest, in_nothing, in_literals, between_literals, IsEscape, unescaped, escaped_by, like_pattern, ilike_pattern, IsCondition, compares, is_null, is_not_null, bare_test, not_test, IsPredicate, says_true, says_false, says_null, on_column, prefix_call, IsFilter, predicate, group, not_filter, one_operand, and_filter, one_conjunction, or_filter}
 use Rattle.vortex_filter.specs.CheckSteps.{holds_strings}
 use Rattle.vortex_filter.specs.Literals.{LiteralTree, decimal_at, integer_at, integer_in, logical_cell, number_of_shape, null_literal, truth_literal, number_literal, text_literal, bytes_literal, null_cell, truth_cell, number_cell, text_cell, bytes_cell, position_of, storage_content, text_of_shape}
 use Rattle.vortex_filter.specs.Positions.{PositionTree, exactly, lacking, cells_of, comparison_of, member_among, member_of}
-use Rattle.filter_sql.specs.Literals.{Condition, compared, missing, listed, between, begun, denied, formula_in, literal_of, pattern_prefix, positions_of, with_byte, is_wildcard}
-use Rattle.filter_sql.specs.Parsing.{IsValueLiteral, IsLiteral, IsFound, IsReadable, depth, depth_at}
+use Rattle.filter_sql.specs.Literals.{Condition, compared, missing, listed, between, alike, denied, formula_in, literal_of, positions_of, prefix_or}
+use Rattle.filter_sql.specs.Parsing.{IsValueLiteral, IsLiteral, IsFound, IsMoreThanPrefix, IsReadable, depth, depth_at}
 use Rattle.vortex_filter.specs.LogicalValues.{IsLogicalValue}
 use Rattle.filter_sql.specs.Lexing.{is_number}
 use Rattle.filter_sql.specs.LiteralWords.{AreWordsOf, AreWordsOfEach, IsWordOf, LiteralWords, WordTree, WritesCell, bare_word, first_word, is_numeric, quoted_word, words_behind}
-use Rattle.filter_sql.specs.Printing.{column_token, integer_text, literal_token, literal_tokens, is_special, escaped_byte, prefix_pattern, prefix_tokens, starts_with_tokens, tokens_at, tokens_of}
+use Rattle.filter_sql.specs.Printing.{column_token, integer_text, literal_token, literal_tokens, escape_tokens, is_special, pattern_tokens, prefix_pattern, prefix_tokens, starts_with_tokens, tokens_at, tokens_of}
 use Rattle.filter_sql.specs.Tokens.{TokenTree, IsNumber, IsToken, AreTokens, keyword_token, string_token, opening, closing, comma}
 use Rattle.filter_sql.proofs.ConditionSteps.{begun_says, between_says, stand_more}
 use Rattle.filter_sql.proofs.Again.{both_true}
 use Rattle.filter_sql.proofs.Taken.{whole_number}
-use Rattle.filter_sql.proofs.TestSteps.{step_escape, step_plain}
+use Rattle.filter_sql.proofs.Characters.{backslash_text, prefix_text, special_characters}
+use Rattle.filter_sql.proofs.TestSteps.{prefix_is}
 use Rattle.filter_sql.proofs.WordLaws.{shape_at}
 use Rattle.vortex_filter.proofs.LiteralTypes.{TypesSay, storage_is}
 
@@ -221,11 +229,13 @@ said_of : (t : TypeTree) (w : Option WordTree) (x y : Cell) → x ≡ y → IsWo
 said_of t None x y same h none said = subst (λ (z : Cell). Said t None z) (sym same) said
 said_of t (Some w) x y same h none said = absurd (none h.logical h.storage (subst (λ (z : Cell). IsLogicalValue h.logical h.storage z) same h.is))
 
--- where digits are read as their integer, and words of logical types as their value
+-- where digits are read as their integer, words of logical types as their value, and texts of patterns as their pattern
 pub record LiteralLaws : Type 0 where
   pub integers : IntegersThere
   pub types : TypesSay
   pub words : WordsSay
+  pub escaped : TextsComeBack
+  pub plain : PlainTextsComeBack
 
 module _ (laws : LiteralLaws) where
   truth_printed : (b : Bool) (n : _) → Said (bool_type n) None (truth_cell b)
@@ -312,62 +322,81 @@ module _ (laws : LiteralLaws) where
   members_are_tokens : (t : TypeTree) (ws : LiteralWords) (xs : List Cell) → AreWordsOfEach ws xs → AllByRecursion (IsLiteral t) xs → AreTokens (member_tokens ws xs)
   members_are_tokens t ws xs a h = (tt, (tt, tokens_append (literal_tokens ws xs) (closing ∷ []) (literals_are_tokens t ws xs a h) (tt, tt)))
 
-  -- ---- prefixes
+  -- ---- prefixes and patterns
 
-  or_parts : (a b : Bool) → (a || b) ≡ false → (a ≡ false) × (b ≡ false)
-  or_parts true b e = absurd cc
-  or_parts false b e = (refl, e)
+  -- the escape that is printed
+  abbrev escape_of : Bool → Option ℕ
+  escape_of true = Some 92
+  escape_of false = None
 
-  and_false : (a b : Bool) → b ≡ false → (a && b) ≡ false
-  and_false true b e = e
-  and_false false b e = refl
+  escape_means : (special : Bool) → IsEscape (escape_tokens special) (escape_of special)
+  escape_means true = escaped_by (ap chars (sym backslash_text) ∙ chars-encodes (92 ∷ []) refl)
+  escape_means false = unescaped
 
-  record Behind (bs : List ℕ) : Type 0 where
-    first : ℕ
-    others : List ℕ
-    whole : bs ++ 37 ∷ [] ≡ first ∷ others
+  escape_are_tokens : (special : Bool) → AreTokens (escape_tokens special)
+  escape_are_tokens true = (tt, (tt, tt))
+  escape_are_tokens false = tt
 
-  some_behind : (bs : List ℕ) → Behind bs
-  some_behind [] = record { first = 37; others = []; whole = refl }
-  some_behind (b ∷ bs) = record { first = b; others = bs ++ 37 ∷ []; whole = refl }
+  -- a pattern's text spells it again
+  pattern_back : (special : Bool) (parts : List Part) → has_special parts ≡ special → all_scalars (pattern_text parts) ≡ true → pattern_of (escape_of special) (chars (encode_utf8_all (pattern_text parts))) ≡ Some parts
+  pattern_back true parts is scalars = ap (pattern_of (Some 92)) (chars-encodes (pattern_text parts) scalars) ∙ laws.escaped parts
+  pattern_back false parts is scalars = ap (pattern_of None) (chars-encodes (pattern_text parts) scalars) ∙ laws.plain parts is
 
-  -- whether backslashes escape, where they have to
-  abbrev Escaping : Bool → List ℕ → Type 0
-  Escaping escapes bs = (escapes ≡ true) ⊎ (list_any is_special bs ≡ false)
+  pattern_are_tokens : (case : Case) (parts : List Part) → AreTokens (pattern_tokens case parts)
+  pattern_are_tokens case parts = (tt, (tt, escape_are_tokens (has_special parts)))
 
-  escaping_rest : (escapes : Bool) (b : ℕ) (bs : List ℕ) → Escaping escapes (b ∷ bs) → Escaping escapes bs
-  escaping_rest escapes b bs (inl e) = inl e
-  escaping_rest escapes b bs (inr e) = inr (or_parts (is_special b) (list_any is_special bs) e).1
+  pattern_printed : (k : ℕ) (n : Nullability) (case : Case) (parts : List Part) → IsMoreThanPrefix case parts → PrintedTest k (utf8_type n) (pattern_tokens case parts) (pattern_test k case parts)
+  pattern_printed k n Sensitive parts more = record {
+    condition = alike Sensitive parts;
+    means = like_pattern (escape_means (has_special parts)) (pattern_back (has_special parts) parts refl more.scalars);
+    says = ap (λ (o : Option (List ℕ)). Some (prefix_or k o (pattern_test k Sensitive parts))) more.no_prefix;
+  }
+  pattern_printed k n Insensitive parts more = record {
+    condition = alike Insensitive parts;
+    means = ilike_pattern (escape_means (has_special parts)) (pattern_back (has_special parts) parts refl more.scalars);
+    says = refl;
+  }
 
-  abbrev escaped : List ℕ → List ℕ
-  escaped bs = flat_map escaped_byte bs ++ 37 ∷ []
+  -- the pattern of a prefix
+  abbrev prefix_parts : List ℕ → List Part
+  prefix_parts cs = literals cs ++ any_string ∷ []
 
-  escaped_by : (escapes : Bool) (b : ℕ) (bs : List ℕ) (special : Bool) → is_special b ≡ special → Escaping escapes (b ∷ bs) → pattern_prefix escapes (escaped bs) ≡ Some bs → pattern_prefix escapes ((cond special (92 ∷ b ∷ []) (b ∷ []) ++ flat_map escaped_byte bs) ++ 37 ∷ []) ≡ Some (b ∷ bs)
-  escaped_by escapes b bs true is (inl e) rest = step_escape escapes 92 b (escaped bs) (rw e refl) ∙ ap (with_byte b) rest
-  escaped_by escapes b bs true is (inr e) rest = let p = or_parts (is_special b) (list_any is_special bs) e in let both : true ≡ false = sym is ∙ p.0 in absurd cc
-  escaped_by escapes b bs false is h rest =
-      let p = or_parts (is_wildcard b) (b == 92) is in
-      let behind = some_behind (flat_map escaped_byte bs) in
-      ap (λ (r : List ℕ). pattern_prefix escapes (b ∷ r)) behind.whole ∙ step_plain escapes b behind.first behind.others (and_false escapes (b == 92) p.1) p.0
-      ∙ ap (λ (r : List ℕ). with_byte b (pattern_prefix escapes r)) (sym behind.whole) ∙ ap (with_byte b) rest
+  scalars_append : (cs ds : List ℕ) → all_scalars cs ≡ true → all_scalars ds ≡ true → all_scalars (cs ++ ds) ≡ true
+  scalars_append [] ds a b = b
+  scalars_append (c ∷ cs) ds a b = let p = both_true (scalar c) (all_scalars cs) a in rw (p.0, scalars_append cs ds p.1 b) refl
 
-  pattern_back : (escapes : Bool) (bs : List ℕ) → Escaping escapes bs → pattern_prefix escapes (escaped bs) ≡ Some bs
-  unfolding pattern_prefix
-  pattern_back escapes [] h = refl
-  pattern_back escapes (b ∷ bs) h =
-      ap (λ (r : List ℕ). pattern_prefix escapes (r ++ 37 ∷ [])) (flat_map-cons escaped_byte b bs)
-      ∙ escaped_by escapes b bs (is_special b) refl h (pattern_back escapes bs (escaping_rest escapes b bs h))
+  part_scalars : (c : ℕ) (special : Bool) → scalar c ≡ true → all_scalars (cond special (92 ∷ c ∷ []) (c ∷ [])) ≡ true
+  part_scalars c true is = rw is refl
+  part_scalars c false is = rw is refl
+
+  prefix_scalars : (cs : List ℕ) → all_scalars cs ≡ true → all_scalars (pattern_text (prefix_parts cs)) ≡ true
+  prefix_scalars [] is = refl
+  prefix_scalars (c ∷ cs) is =
+      let p = both_true (scalar c) (all_scalars cs) is in
+      scalars_append (part_text (literal c)) (pattern_text (prefix_parts cs)) (part_scalars c (is_special c) p.0) (prefix_scalars cs p.1)
+
+  -- a string's bytes have something special if its characters do
+  special_is : (bs : List ℕ) (utf8 : IsUtf8 bs) → has_special (prefix_parts utf8.0) ≡ list_any is_special bs
+  special_is bs utf8 = sym (special_characters utf8.0) ∙ ap (list_any is_special) utf8.1.1
+
+  prefix_back : (special : Bool) (bs : List ℕ) (utf8 : IsUtf8 bs) → list_any is_special bs ≡ special → pattern_of (escape_of special) (chars (prefix_pattern bs)) ≡ Some (prefix_parts utf8.0)
+  prefix_back special bs utf8 is =
+      let text : prefix_pattern bs ≡ encode_utf8_all (pattern_text (prefix_parts utf8.0)) = ap prefix_pattern (sym utf8.1.1) ∙ prefix_text utf8.0 in
+      ap (λ (l : List ℕ). pattern_of (escape_of special) (chars l)) text ∙ pattern_back special (prefix_parts utf8.0) (special_is bs utf8 ∙ is) (prefix_scalars utf8.0 utf8.1.0)
 
   abbrev like_with : Bool → List ℕ → List TokenTree
-  like_with special bs = keyword_token keywords.Like ∷ string_token (prefix_pattern bs) ∷ cond special (keyword_token keywords.Escape ∷ string_token (92 ∷ []) ∷ []) []
+  like_with special bs = keyword_token keywords.Like ∷ string_token (prefix_pattern bs) ∷ escape_tokens special
 
   like_by : (k : ℕ) (n : _) (bs : List ℕ) (special : Bool) → list_any is_special bs ≡ special → IsUtf8 bs → PrintedTest k (utf8_type n) (like_with special bs) (prefix_test k (text_cell bs))
-  like_by k n bs true is utf8 = record { condition = begun (text_literal bs); means = like_escaped (pattern_back true bs (inl refl)) (is_utf8-from_IsUtf8 bs utf8); says = refl }
-  like_by k n bs false is utf8 = record { condition = begun (text_literal bs); means = like_pattern (pattern_back false bs (inr is)) (is_utf8-from_IsUtf8 bs utf8); says = refl }
+  like_by k n bs special is utf8 = record {
+    condition = alike Sensitive (prefix_parts utf8.0);
+    means = like_pattern (escape_means special) (prefix_back special bs utf8 is);
+    says = ap (λ (o : Option (List ℕ)). Some (prefix_or k o (pattern_test k Sensitive (prefix_parts utf8.0)))) (prefix_is (prefix_parts utf8.0) utf8.0 refl)
+        ∙ ap (λ (l : List ℕ). Some (prefix_test k (text_cell l))) utf8.1.1;
+  }
 
   like_are_tokens : (special : Bool) (bs : List ℕ) → AreTokens (like_with special bs)
-  like_are_tokens true bs = (tt, (tt, (tt, (tt, tt))))
-  like_are_tokens false bs = (tt, (tt, tt))
+  like_are_tokens special bs = (tt, (tt, escape_are_tokens special))
 
   -- ---- predicates
 
@@ -523,6 +552,7 @@ module _ (laws : LiteralLaws) where
         let high = literal_printed r.0 (first_word (drop 1 ws)) y a.1 r.3 in
         tested l n k r.0 _ (range k x y) r.1 (range_printed k r.0 (first_word ws) (first_word (drop 1 ws)) x y low high) (tt, (low.token, (tt, (high.token, tt))))
     printed ws (prefix_test k x) a r l n h = plain l n (prefix_tokens (column_token names k) (literal_token (first_word ws) x) x.content) (prefix_test k x) (prefix_printed k r.0 (first_word ws) x r.1 r.2 a r.3)
+    printed ws (pattern_test k case parts) a r l n h = tested l n k (utf8_type r.0) (pattern_tokens case parts) (pattern_test k case parts) r.1 (pattern_printed k r.0 case parts r.2) (pattern_are_tokens case parts)
     printed ws (both f g) a r l n h = and_printed ws f g (printed ws f a.0 r.0) (printed (words_behind f ws) g a.1 r.1) l n h
     printed ws (either f g) a r l n h = or_printed ws f g (printed ws f a.0 r.0) (printed (words_behind f ws) g a.1 r.1) l n h
     printed ws (negation (null_test k)) a r l n h = conditional l n k r.0 _ (denied missing) (negation (null_test k)) r.1 is_not_null refl (tt, (tt, (tt, tt)))
@@ -534,6 +564,7 @@ module _ (laws : LiteralLaws) where
     printed ws (negation (constant t)) a r l n h = negation_printed ws (constant t) (printed ws (constant t) a r) l n h
     printed ws (negation (comparison k op x)) a r l n h = negation_printed ws (comparison k op x) (printed ws (comparison k op x) a r) l n h
     printed ws (negation (prefix_test k x)) a r l n h = negation_printed ws (prefix_test k x) (printed ws (prefix_test k x) a r) l n h
+    printed ws (negation (pattern_test k case parts)) a r l n h = negation_printed ws (pattern_test k case parts) (printed ws (pattern_test k case parts) a r) l n h
     printed ws (negation (both f g)) a r l n h = negation_printed ws (both f g) (printed ws (both f g) a r) l n h
     printed ws (negation (either f g)) a r l n h = negation_printed ws (either f g) (printed ws (either f g) a r) l n h
     printed ws (negation (negation f)) a r l n h = negation_printed ws (negation f) (printed ws (negation f) a r) l n h

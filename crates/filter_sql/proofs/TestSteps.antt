@@ -1,23 +1,30 @@
 -- What reading gives of literals in parentheses and of prefixes, step by step, as the code goes.
-use Rattle.std.proofs.Common.{◌==◌, ◌&&◌, ◌≡◌, ℕ, ◌<◌, suc, Bool, true, false, List, [], ◌∷◌, ◌++◌, length, Option, Some, None, refl, sym, ap, ◌∙◌, append_assoc, arith, IsUtf8}
-use Rattle.std.specs.Prelude.{IfNone, Result, Ok, Err}
-use Rattle.std.specs.Str.{bytes_eq, is_utf8}
+use Rattle.std.proofs.Common.{◌≡◌, ℕ, ◌<◌, suc, Bool, true, false, cond, List, [], ◌∷◌, ◌++◌, length, Option, Some, None, refl, sym, ap, ◌∙◌, append_assoc, arith, encode_utf8, IsUtf8}
+use Rattle.std.specs.Prelude.{MatchOption, MatchResult, Result, Ok, Err, option_map}
+use Rattle.std.specs.Borrow.{Bor}
+use Rattle.std.specs.Str.{chars, encode_utf8_all}
+use Rattle.std.proofs.lemmas.Bool.{false≢true}
 use Rattle.std.proofs.lemmas.List.{append-nil, length-map}
-use Rattle.std.proofs.lemmas.Str.{IsUtf8-from_is_utf8, is_utf8-from_IsUtf8}
+use Rattle.std.proofs.lemmas.Str.{IsUtf8-past_char, chars-nil, chars_past_char, encodes-chars}
+use Rattle.like_patterns.specs.declared.case.Case.{Case}
+use Rattle.like_patterns.specs.declared.case.Case.TheVariants.{Sensitive}
+use Rattle.like_patterns.specs.Patterns.{Part, literal, any_character, any_string}
+use Rattle.like_patterns.specs.Pieces.{literals}
+use Rattle.vortex_dtype.specs.Parts.{is_utf8_type}
 use Rattle.vortex_dtype.specs.TypeTree.{TypeTree, utf8_type}
 use Rattle.vortex_cells.specs.Cells.{Cell}
 use Rattle.filter_sql.specs.declared.error.Expected.TheVariants as expects
-use Rattle.filter_sql.specs.declared.parsing.errors.Cause.TheVariants as causes
 use Rattle.filter_sql.specs.declared.parsing.errors.TokenError.{TokenError}
 use Rattle.filter_sql.specs.declared.parsing.errors.TokenError.TheVariants as faults
 use Rattle.filter_sql.specs.declared.token.Placed.{Placed}
-use Rattle.vortex_filter.specs.Formula.{Formula, prefix_test}
+use Rattle.vortex_filter.specs.Formula.{Formula, pattern_test, prefix_test}
 use Rattle.vortex_filter.specs.Literals.{text_cell}
 use Rattle.vortex_filter.specs.Positions.{PositionTree, exactly, cells_of, prefix_of}
-use Rattle.filter_sql.specs.Literals.{pattern_prefix, with_byte, is_wildcard}
+use Rattle.filter_sql.specs.Literals.{before_percent, like_in, like_test, prefix_asked, prefix_or}
 use Rattle.filter_sql.specs.Tokens.{TokenTree, token_tree, trees, closing, comma}
-use Rattle.filter_sql.specs.Mistakes.{Fails, Gives, cells_mistake, expected, literal_mistake, more_mistake, text_cause, other_type}
-use Rattle.filter_sql.specs.Reading.{position_then, position_at, token_position, preceded, more_cells, cells_at, with_front, with_bytes, ending, after_comma, after_closing, string_in, text_prefix}
+use Rattle.filter_sql.specs.Mistakes.{Fails, Gives, cells_mistake, expected, literal_mistake, more_mistake}
+use Rattle.filter_sql.specs.Reading.{position_then, position_at, token_position, preceded, more_cells, cells_at, with_front, after_comma, after_closing, only_one, string_in}
+use Rattle.filter_sql.proofs.ConditionSteps.{map_some}
 use Rattle.filter_sql.proofs.ReadSteps.{fails_on}
 
 some_is : {A : Type 0} (x y : A) → Some x ≡ Some y → x ≡ y
@@ -173,109 +180,88 @@ is_smaller t ps qs us l word read =
 
 -- ---- prefixes
 
-module _ (k : ℕ) (t : TypeTree) (bs : List ℕ) where
-  no_text_by : (b : Bool) → is_utf8 bs ≡ b → (IsUtf8 bs → ⊥) → text_prefix k t bs ≡ None
-  unfolding text_prefix
-  no_text_by true is other = absurd (other (IsUtf8-from_is_utf8 bs is))
-  no_text_by false is other = rw is refl
-
-  pub no_text : (IsUtf8 bs → ⊥) → text_prefix k t bs ≡ None
-  no_text other = no_text_by (is_utf8 bs) refl other
-
-  pub text_is : (l : PositionTree) → IsUtf8 bs → string_in t bs ≡ Some l → text_prefix k t bs ≡ prefix_of k l
-  unfolding text_prefix
-  text_is l utf8 said = rw (is_utf8-from_IsUtf8 bs utf8, said) refl
-
-  text_none : IsUtf8 bs → string_in t bs ≡ None → text_prefix k t bs ≡ None
-  unfolding text_prefix
-  text_none utf8 said = rw (is_utf8-from_IsUtf8 bs utf8, said) refl
-
-  text_wrong : (left : ℕ) → IsUtf8 bs → faults.At left (text_cause t bs) ≡ faults.At left (other_type t)
-  text_wrong left utf8 = rw (is_utf8-from_IsUtf8 bs utf8) refl
-
-  pub text_fails : (e : TokenError) (left : ℕ) → IsUtf8 bs → Fails e (string_in t bs) (faults.At left (other_type t)) → Fails e (text_prefix k t bs) (faults.At left (text_cause t bs))
-  text_fails e left utf8 failed = fails_on e _ _ _ _ (λ none. (text_none utf8 none, text_wrong left utf8)) failed
-
-  no_string_by : (left : ℕ) (b : Bool) → is_utf8 bs ≡ b → (IsUtf8 bs → ⊥) → faults.At left (text_cause t bs) ≡ faults.At left (causes.Expected expects.Prefix)
-  no_string_by left true is other = absurd (other (IsUtf8-from_is_utf8 bs is))
-  no_string_by left false is other = rw is refl
-
-  -- bytes that are no string are told as no prefix
-  pub no_string : (left : ℕ) → (IsUtf8 bs → ⊥) → (text_prefix k t bs ≡ None) × (faults.At left (text_cause t bs) ≡ faults.At left (causes.Expected expects.Prefix))
-  no_string left other = (no_text other, no_string_by left (is_utf8 bs) refl other)
-
 string_is : (t : TypeTree) (bs : List ℕ) (l : PositionTree) → string_in t bs ≡ Some l → l ≡ exactly (text_cell bs)
 string_is (utf8_type n) bs l e = let made : PositionTree = exactly (text_cell bs) in sym (some_is made l e)
 string_is _ bs l e = absurd cc
 
-same_prefix : (k : ℕ) (bs : List ℕ) (l : PositionTree) → l ≡ exactly (text_cell bs) → prefix_of k l ≡ Some (prefix_test k (text_cell bs))
-same_prefix k bs l e = ap (prefix_of k) e
+string_stands : (t : TypeTree) (bs : List ℕ) → is_utf8_type t ≡ true → string_in t bs ≡ Some (exactly (text_cell bs))
+string_stands (utf8_type n) bs e = refl
+string_stands _ bs e = absurd (false≢true e)
 
--- what is read is told as it is, whatever mistake there could be
-read_told : {X Y : Type 0} (view : X → Y) (r : Result X TokenError) (read : Option Y) (y : Y) (m n : TokenError) → read ≡ Some y → Gives view r read m → Gives view r read n
-read_told view (Ok x) read y m n is given = given
-read_told view (Err faults.NoMemory) read y m n is given = tt
-read_told view (Err (faults.At left cause)) read y m n is given = let clash : None ≡ Some y = sym given.0 ∙ is in absurd cc
+-- where something is read in any case, only memory can fail
+memory_alone : {Y : Type 0} (e : TokenError) (read : Option Y) (y : Y) (mistake : TokenError) → read ≡ Some y → Fails e read mistake → e ≡ faults.NoMemory
+memory_alone faults.NoMemory read y mistake is failed = refl
+memory_alone (faults.At left cause) read y mistake is failed = let clash : None ≡ Some y = sym failed.0 ∙ is in absurd cc
+
+given_or_memory : {X Y : Type 0} (view : X → Y) (r : Result X TokenError) (read : Option Y) (y : Y) (mistake : TokenError) → read ≡ Some y → Gives view r read mistake → MatchResult r (λ x. view x ≡ y) (λ e. e ≡ faults.NoMemory)
+given_or_memory view (Ok x) read y mistake is given = some_is (view x) y (sym given ∙ is)
+given_or_memory view (Err e) read y mistake is given = memory_alone e read y mistake is given
+
+-- a column of strings has each string
+pub string_fails : (e : TokenError) (t : TypeTree) (bs : List ℕ) (mistake : TokenError) → is_utf8_type t ≡ true → Fails e (string_in t bs) mistake → e ≡ faults.NoMemory
+string_fails e t bs mistake strings failed = memory_alone e (string_in t bs) (exactly (text_cell bs)) mistake (string_stands t bs strings) failed
 
 -- a string is a prefix
-pub string_prefix : {X : Type 0} (view : X → Formula) (r : Result X TokenError) (k : ℕ) (t : TypeTree) (bs : List ℕ) (l : PositionTree) (m n : TokenError) → string_in t bs ≡ Some l → Gives view r (prefix_of k l) m → Gives view r (prefix_of k l) n
-string_prefix view r k t bs l m n said given = read_told view r (prefix_of k l) (prefix_test k (text_cell bs)) m n (same_prefix k bs l (string_is t bs l said)) given
+pub string_prefix : {X : Type 0} (view : X → Formula) (r : Result X TokenError) (k : ℕ) (t : TypeTree) (bs : List ℕ) (l : PositionTree) (mistake : TokenError) → IsUtf8 bs → string_in t bs ≡ Some l → Gives view r (prefix_of k l) mistake
+    → MatchResult r (λ x. view x ≡ prefix_test k (text_cell (encode_utf8_all (chars bs)))) (λ e. e ≡ faults.NoMemory)
+string_prefix view r k t bs l mistake utf8 said given =
+    given_or_memory view r (prefix_of k l) (prefix_test k (text_cell (encode_utf8_all (chars bs)))) mistake (ap (prefix_of k) (string_is t bs l said) ∙ ap (λ (b : List ℕ). Some (prefix_test k (text_cell b))) (sym (encodes-chars bs utf8))) given
 
 -- ---- patterns
 
-module _ (escapes : Bool) where
-  pub step_escape : (b c : ℕ) (bs : List ℕ) → (escapes && (b == 92)) ≡ true → pattern_prefix escapes (b ∷ c ∷ bs) ≡ with_byte c (pattern_prefix escapes bs)
-  unfolding pattern_prefix
-  step_escape b c bs e = rw e refl
+-- a test that stands for a pattern, or fails for want of memory
+pub prefix_like : {X : Type 0} (view : X → Formula) (r : Result X TokenError) (k : ℕ) (t : TypeTree) (case : Case) (parts : List Part) (cs : List ℕ) (mistake : TokenError) → is_utf8_type t ≡ true → prefix_asked case parts ≡ Some cs
+    → MatchResult r (λ x. view x ≡ prefix_test k (text_cell (encode_utf8_all cs))) (λ e. e ≡ faults.NoMemory) → Gives view r (like_in k t case parts) mistake
+prefix_like view (Ok x) k t case parts cs mistake strings asked given =
+    ap (λ (b : Bool). cond b (Some (like_test k case parts)) None) strings ∙ ap (λ (o : Option (List ℕ)). Some (prefix_or k o (pattern_test k case parts))) asked ∙ ap (λ (f : Formula). Some f) (sym given)
+prefix_like view (Err faults.NoMemory) k t case parts cs mistake strings asked given = tt
+prefix_like view (Err (faults.At left cause)) k t case parts cs mistake strings asked given = let clash : faults.At left cause ≡ faults.NoMemory = given in absurd cc
 
-  pub step_plain : (b c : ℕ) (bs : List ℕ) → (escapes && (b == 92)) ≡ false → is_wildcard b ≡ false → pattern_prefix escapes (b ∷ c ∷ bs) ≡ with_byte b (pattern_prefix escapes (c ∷ bs))
-  unfolding pattern_prefix
-  step_plain b c bs e w = rw (e, w) refl
+pub pattern_like : (k : ℕ) (t : TypeTree) (case : Case) (parts : List Part) → is_utf8_type t ≡ true → prefix_asked case parts ≡ None → like_in k t case parts ≡ Some (pattern_test k case parts)
+pattern_like k t case parts strings asked =
+    ap (λ (b : Bool). cond b (Some (like_test k case parts)) None) strings ∙ ap (λ (o : Option (List ℕ)). Some (prefix_or k o (pattern_test k case parts))) asked
 
-  no_two : (b c : ℕ) (bs : List ℕ) (same : Bool) → (b == 37) ≡ same → ending (b ∷ c ∷ bs) ≡ None
-  no_two b c bs true e = rw e refl
-  no_two b c bs false e = rw e refl
+pub not_like : (k : ℕ) (t : TypeTree) (case : Case) (parts : List Part) → is_utf8_type t ≡ false → like_in k t case parts ≡ None
+not_like k t case parts other = ap (λ (b : Bool). cond b (Some (like_test k case parts)) None) other
 
-  pub step_wild : (b c : ℕ) (bs : List ℕ) → (escapes && (b == 92)) ≡ false → is_wildcard b ≡ true → pattern_prefix escapes (b ∷ c ∷ bs) ≡ ending (b ∷ c ∷ bs)
-  unfolding pattern_prefix
-  step_wild b c bs e w = rw (e, w) (sym (no_two b c bs (b == 37) refl))
+-- the prefix of a pattern with a % at its end alone
+before_is : (cs : List ℕ) → before_percent (literals cs ++ any_string ∷ []) ≡ Some cs
+before_is [] = refl
+before_is (c ∷ cs) = ap (option_map (λ (ds : List ℕ). c ∷ ds)) (before_is cs)
 
-  pub step_none : pattern_prefix escapes [] ≡ ending []
-  unfolding pattern_prefix
-  step_none = refl
+before_came : (parts : List Part) (cs : List ℕ) → before_percent parts ≡ Some cs → parts ≡ literals cs ++ any_string ∷ []
+before_came [] cs e = absurd cc
+before_came (literal c ∷ parts) cs e =
+    let m = map_some (before_percent parts) (λ (ds : List ℕ). c ∷ ds) cs e in
+    ap (λ (ps : List Part). literal c ∷ ps) (before_came parts m.0 m.1) ∙ ap (λ (ds : List ℕ). literals ds ++ any_string ∷ []) m.2
+before_came (any_character ∷ parts) cs e = absurd cc
+before_came (any_string ∷ []) cs e = let same : [] ≡ cs = some_is [] cs e in ap (λ (ds : List ℕ). literals ds ++ any_string ∷ []) same
+before_came (any_string ∷ part ∷ parts) cs e = absurd cc
 
-  one_by : (b : ℕ) (same : Bool) → (b == 37) ≡ same → pattern_prefix escapes (b ∷ []) ≡ ending (b ∷ [])
-  unfolding pattern_prefix
-  one_by b true e = rw e refl
-  one_by b false e = rw e refl
+pub prefix_is : (parts : List Part) (cs : List ℕ) → parts ≡ literals cs ++ any_string ∷ [] → prefix_asked Sensitive parts ≡ Some cs
+prefix_is parts cs is = ap before_percent is ∙ before_is cs
 
-  pub step_one : (b : ℕ) → pattern_prefix escapes (b ∷ []) ≡ ending (b ∷ [])
-  step_one b = one_by b (b == 37) refl
+no_prefix_by : (parts : List Part) (o : Option (List ℕ)) → before_percent parts ≡ o → ¬ ((cs : List ℕ) × (parts ≡ literals cs ++ any_string ∷ [])) → o ≡ None
+no_prefix_by parts None e none = refl
+no_prefix_by parts (Some cs) e none = absurd (none (cs, before_came parts cs e))
 
-byte_more : (front : List ℕ) (b : ℕ) (r : Option (List ℕ)) → with_bytes (front ++ b ∷ []) r ≡ with_bytes front (with_byte b r)
-byte_more front b None = refl
-byte_more front b (Some bs) = ap (λ (x : List ℕ). Some x) (append_assoc front (b ∷ []) bs)
+pub no_prefix : (parts : List Part) → ¬ ((cs : List ℕ) × (parts ≡ literals cs ++ any_string ∷ [])) → prefix_asked Sensitive parts ≡ None
+no_prefix parts none = no_prefix_by parts (before_percent parts) refl none
 
-pub pattern_goes_on : (front fronts : List ℕ) (b : ℕ) (now next total : Option (List ℕ)) → with_bytes front now ≡ total → now ≡ with_byte b next → fronts ≡ front ++ b ∷ [] → with_bytes fronts next ≡ total
-pattern_goes_on front fronts b now next total so_far step made = ap (λ (x : List ℕ). with_bytes x next) made ∙ byte_more front b next ∙ ap (with_bytes front) (sym step) ∙ so_far
+-- what a call gives of a pattern that is compared with case
+pub prefix_given : (case : Case) (parts : List Part) (r : Option (Bor (List ℕ))) → case ≡ Sensitive
+    → MatchOption r (¬ ((cs : List ℕ) × (parts ≡ literals cs ++ any_string ∷ []))) (λ text. parts ≡ literals (chars text.now) ++ any_string ∷ []) → option_map (λ text. chars text.now) r ≡ prefix_asked case parts
+prefix_given case parts None same none = sym (ap (λ (c : Case). prefix_asked c parts) same ∙ no_prefix parts none)
+prefix_given case parts (Some text) same is = sym (ap (λ (c : Case). prefix_asked c parts) same ∙ prefix_is parts (chars text.now) is)
 
-pub pattern_ends : (front bs : List ℕ) (now total : Option (List ℕ)) → with_bytes front now ≡ total → now ≡ ending bs → bytes_eq bs (37 ∷ []) ≡ true → total ≡ Some front
-pattern_ends front bs now total so_far is end = sym so_far ∙ ap (with_bytes front) is ∙ rw end (ap (λ (x : List ℕ). Some x) (append-nil front))
+-- ---- escapes
 
-pub pattern_fails : (front bs : List ℕ) (now total : Option (List ℕ)) → with_bytes front now ≡ total → now ≡ ending bs → bytes_eq bs (37 ∷ []) ≡ false → total ≡ None
-pattern_fails front bs now total so_far is end = sym so_far ∙ ap (with_bytes front) is ∙ rw end refl
+pub no_character : (text : List ℕ) → text ≡ [] → only_one (chars text) ≡ None
+no_character text none = ap (λ (bs : List ℕ). only_one (chars bs)) none ∙ ap only_one chars-nil
 
-pub none_if : {T : Type 0} (r : Option T) (P : Type 0) → P → IfNone r P
-none_if None P p = p
-none_if (Some x) P p = tt
+pub one_character : (text rest : List ℕ) (c : ℕ) → IsUtf8 text → text ≡ encode_utf8 c ++ rest → rest ≡ [] → only_one (chars text) ≡ Some c
+one_character text rest c utf8 is none = ap only_one (chars_past_char text rest c utf8 is ∙ ap (λ (bs : List ℕ). c ∷ chars bs) none ∙ ap (λ (cs : List ℕ). c ∷ cs) chars-nil)
 
-pub pattern_of_none : (escapes : Bool) (pattern : List ℕ) → pattern ≡ [] → pattern_prefix escapes pattern ≡ ending pattern
-pattern_of_none escapes pattern empty = ap (pattern_prefix escapes) empty ∙ step_none escapes ∙ ap ending (sym empty)
-
-pub pattern_of_one : (escapes : Bool) (pattern : List ℕ) (b : ℕ) (behind : List ℕ) → pattern ≡ b ∷ behind → behind ≡ [] → pattern_prefix escapes pattern ≡ ending pattern
-pattern_of_one escapes pattern b behind whole empty =
-    let one : pattern ≡ b ∷ [] = whole ∙ ap (λ (bs : List ℕ). b ∷ bs) empty in
-    ap (pattern_prefix escapes) one ∙ step_one escapes b ∙ ap ending (sym one)
-
-pub pattern_of_two : (pattern : List ℕ) (b : ℕ) (behind : List ℕ) (c : ℕ) (bs : List ℕ) → pattern ≡ b ∷ behind → behind ≡ c ∷ bs → pattern ≡ b ∷ c ∷ bs
-pattern_of_two pattern b behind c bs whole more = whole ∙ ap (λ (x : List ℕ). b ∷ x) more
+pub more_characters : (text rest more : List ℕ) (c d : ℕ) → IsUtf8 text → text ≡ encode_utf8 c ++ rest → rest ≡ encode_utf8 d ++ more → only_one (chars text) ≡ None
+more_characters text rest more c d utf8 is then =
+    ap only_one (chars_past_char text rest c utf8 is ∙ ap (λ (cs : List ℕ). c ∷ cs) (chars_past_char rest more d (IsUtf8-past_char text rest c utf8 is) then))

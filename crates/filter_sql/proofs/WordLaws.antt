@@ -2,11 +2,13 @@
 use Rattle.std.proofs.Common.{◌≡◌, ◌||◌, ◌<◌, ◌+◌, ℕ, zero, suc, Bool, true, false, List, [], ◌∷◌, ◌++◌, length, drop, drop-cons, get_or, Option, Some, None, append_assoc, append-nil, refl, sym, ap, subst, ◌∙◌, arith}
 use Rattle.std.specs.Prelude.{is_some, map, option_map}
 use Rattle.std.specs.List.{list_any}
+use Rattle.like_patterns.specs.declared.case.Case.{Case}
+use Rattle.like_patterns.specs.Patterns.{Part}
 use Rattle.vortex_dtype.specs.TypeTree.{TypeTree}
 use Rattle.vortex_dtype.specs.TypeOf.{type_of}
 use Rattle.vortex_value.specs.declared.scalars.Scalar.{Scalar}
 use Rattle.vortex_cells.specs.Cells.{Cell, cell_of}
-use Rattle.vortex_filter.specs.Formula.{Formula, constant, comparison, null_test, membership, range, prefix_test, both, either, negation}
+use Rattle.vortex_filter.specs.Formula.{Formula, constant, comparison, null_test, membership, range, prefix_test, pattern_test, both, either, negation}
 use Rattle.vortex_filter.specs.declared.operator.CompareOperator.{CompareOperator}
 use Rattle.vortex_filter.proofs.LiteralTypes.{TypesAre, TypesSay, unshaped}
 use Rattle.logical_scalars.specs.Stored.{IsOfLogicalType}
@@ -14,7 +16,7 @@ use Rattle.logical_scalars.specs.TypeShapes.{shape_in}
 use Rattle.logical_types.specs.Shapes.{shape_of}
 use Rattle.logical_types.specs.declared.logical.LogicalType.{LogicalType}
 use Rattle.filter_sql.specs.Choosing.{AddsEach, AddsWord, AddsWords, has_logical, is_logical_cell}
-use Rattle.filter_sql.specs.LiteralWords.{AreWordsOf, AreWordsOfEach, IsWordOf, LiteralWords, WordTree, first_word, is_logical, word_tree, word_trees, words_behind}
+use Rattle.filter_sql.specs.LiteralWords.{AreWordsOf, AreWordsOfEach, IsWordOf, LiteralWords, first_word, is_logical, word_tree, word_trees, words_behind}
 use Rattle.filter_sql.specs.declared.literal_words.Word.{Word}
 
 -- ---- logical types
@@ -55,6 +57,7 @@ none_behind (null_test k) = refl
 none_behind (membership k xs) = none_left (length xs)
 none_behind (range k x y) = refl
 none_behind (prefix_test k x) = refl
+none_behind (pattern_test k case parts) = refl
 none_behind (both p q) = ap (words_behind q) (none_behind p) ∙ none_behind q
 none_behind (either p q) = ap (words_behind q) (none_behind p) ∙ none_behind q
 none_behind (negation p) = none_behind p
@@ -70,6 +73,7 @@ no_words say (null_test k) h = tt
 no_words say (membership k xs) h = plain_each say xs h
 no_words say (range k x y) h = let p = or_false (is_logical_cell x) (is_logical_cell y) h in (plain_cell say x p.0, plain_cell say y p.1)
 no_words say (prefix_test k x) h = plain_cell say x h
+no_words say (pattern_test k case parts) h = tt
 no_words say (both p q) h = let w = or_false (has_logical p) (has_logical q) h in (no_words say p w.0, no_words_then p q (no_words say q w.1))
 no_words say (either p q) h = let w = or_false (has_logical p) (has_logical q) h in (no_words say p w.0, no_words_then p q (no_words say q w.1))
 no_words say (negation p) h = no_words say p h
@@ -96,6 +100,9 @@ constant_added t ws = record { words = []; are = λ rest. tt; ends = λ rest. re
 
 pub null_test_added : (k : ℕ) (ws : LiteralWords) → AddsWords (null_test k) ws ws
 null_test_added k ws = record { words = []; are = λ rest. tt; ends = λ rest. refl; added = sym (append-nil ws) }
+
+pub pattern_test_added : (k : ℕ) (case : Case) (parts : List Part) (ws : LiteralWords) → AddsWords (pattern_test k case parts) ws ws
+pattern_test_added k case parts ws = record { words = []; are = λ rest. tt; ends = λ rest. refl; added = sym (append-nil ws) }
 
 pub comparison_added : (k : ℕ) (op : CompareOperator) (x : Cell) (old now : LiteralWords) → AddsWord x old now → AddsWords (comparison k op x) old now
 comparison_added k op x old now a = record { words = a.word ∷ []; are = λ rest. a.is; ends = λ rest. refl; added = a.added }
@@ -143,7 +150,7 @@ both_added p q old mid now a b = let w = both_add p q old mid now a b in record 
 pub either_added : (p q : Formula) (old mid now : LiteralWords) → AddsWords p old mid → AddsWords q mid now → AddsWords (either p q) old now
 either_added p q old mid now a b = let w = both_add p q old mid now a b in record { words = w.words; are = λ rest. (w.first rest, w.second rest); ends = w.ends; added = w.added }
 
-pub ruleset gathered = (constant_added, null_test_added, comparison_added, prefix_added, membership_added, range_added, negation_added, both_added, either_added)
+pub ruleset gathered = (constant_added, null_test_added, comparison_added, prefix_added, pattern_test_added, membership_added, range_added, negation_added, both_added, either_added)
 
 pub ruleset all_words = (no_words, all_added)
 

@@ -3,7 +3,7 @@ use Rattle.std.proofs.Common.{true≢false, ◌≡◌, Bool, true, false, cond, 
 use Rattle.filter_sql.specs.declared.print.Level.{Level}
 use Rattle.filter_sql.specs.declared.print.Level.TheVariants as levels
 use Rattle.filter_sql.specs.declared.token.Keyword.{Keyword}
-use Rattle.filter_sql.specs.declared.token.Keyword.TheVariants.{And, Or, Not, In, Is, Null, Between, Like, Escape, True, False, StartsWith}
+use Rattle.filter_sql.specs.declared.token.Keyword.TheVariants.{And, Or, Not, In, Is, Null, Between, Like, Ilike, Escape, True, False, StartsWith}
 use Rattle.filter_sql.specs.Tokens.{TokenTree, keyword_token, opening, closing, comma}
 use Rattle.filter_sql.specs.Reading.{after_keyword, same_keyword, after_opening, after_closing, after_comma}
 
@@ -20,6 +20,7 @@ keyword_comes Is ts = refl
 keyword_comes Null ts = refl
 keyword_comes Between ts = refl
 keyword_comes Like ts = refl
+keyword_comes Ilike ts = refl
 keyword_comes Escape ts = refl
 keyword_comes True ts = refl
 keyword_comes False ts = refl
@@ -37,6 +38,7 @@ same_keyword-same Is Is e = refl
 same_keyword-same Null Null e = refl
 same_keyword-same Between Between e = refl
 same_keyword-same Like Like e = refl
+same_keyword-same Ilike Ilike e = refl
 same_keyword-same Escape Escape e = refl
 same_keyword-same True True e = refl
 same_keyword-same False False e = refl

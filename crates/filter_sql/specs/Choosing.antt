@@ -2,7 +2,7 @@
 use Rattle.std.specs.Prelude.{◌≡◌, ◌||◌, Bool, false, List, [], ◌∷◌, ◌++◌, Option, drop, length}
 use Rattle.std.specs.List.{list_any}
 use Rattle.vortex_cells.specs.Cells.{Cell}
-use Rattle.vortex_filter.specs.Formula.{Formula, constant, comparison, null_test, membership, range, prefix_test, both, either, negation}
+use Rattle.vortex_filter.specs.Formula.{Formula, constant, comparison, null_test, membership, range, prefix_test, pattern_test, both, either, negation}
 use Rattle.filter_sql.specs.LiteralWords.{AreWordsOf, AreWordsOfEach, IsWordOf, LiteralWords, WordTree, is_logical, words_behind}
 
 -- whether the cell is of a logical type
@@ -17,6 +17,7 @@ has_logical (null_test k) = false
 has_logical (membership k xs) = list_any is_logical_cell xs
 has_logical (range k x y) = is_logical_cell x || is_logical_cell y
 has_logical (prefix_test k x) = is_logical_cell x
+has_logical (pattern_test k case parts) = false
 has_logical (both p q) = has_logical p || has_logical q
 has_logical (either p q) = has_logical p || has_logical q
 has_logical (negation p) = has_logical p

@@ -1,6 +1,6 @@
 -- The grammar of SQL text: which tokens are a filter, and its formula.
-use Rattle.std.specs.Prelude.{◌≡◌, ℕ, suc, true, false, List, [], ◌∷◌, ◌++◌, Some}
-use Rattle.std.specs.Str.{is_utf8}
+use Rattle.std.specs.Prelude.{◌≡◌, ℕ, suc, List, [], ◌∷◌, ◌++◌, Option, Some, None}
+use Rattle.std.specs.Str.{chars}
 use Rattle.vortex_dtype.specs.TypeTree.{TypeTree}
 use Rattle.vortex_filter.specs.declared.operator.CompareOperator.{CompareOperator}
 use Rattle.filter_sql.specs.declared.print.Level.{Level}
@@ -9,8 +9,11 @@ use Rattle.filter_sql.specs.declared.token.Keyword.TheVariants as keywords
 use Rattle.vortex_filter.specs.declared.truth.Truth.TheVariants as truths
 use Rattle.filter_sql.specs.ColumnNames.{ColumnTree, column_named}
 use Rattle.vortex_filter.specs.Formula.{Formula, constant, both, either, negation}
-use Rattle.vortex_filter.specs.Literals.{LiteralTree, text_literal}
-use Rattle.filter_sql.specs.Literals.{Condition, compared, missing, listed, between, begun, denied, formula_in, literal_of, pattern_prefix}
+use Rattle.vortex_filter.specs.Literals.{LiteralTree}
+use Rattle.like_patterns.specs.declared.case.Case.TheVariants.{Sensitive, Insensitive}
+use Rattle.like_patterns.specs.Patterns.{Part}
+use Rattle.like_patterns.specs.Texts.{pattern_of}
+use Rattle.filter_sql.specs.Literals.{Condition, compared, missing, listed, between, begun, alike, denied, formula_in, literal_of}
 use Rattle.filter_sql.specs.Tokens.{TokenTree, keyword_token, name_token, string_token, operator_token, opening, closing, comma}
 
 -- literals with commas between them, one or more
@@ -18,13 +21,18 @@ pub data AreLiterals : List TokenTree → List LiteralTree → Type 0 where
   one_literal : {x : TokenTree} {l : LiteralTree} → literal_of x ≡ Some l → AreLiterals (x ∷ []) (l ∷ [])
   more_literals : {x : TokenTree} {l : LiteralTree} {ts : List TokenTree} {ls : List LiteralTree} → literal_of x ≡ Some l → AreLiterals ts ls → AreLiterals (x ∷ comma ∷ ts) (l ∷ ls)
 
+-- what may stand behind a pattern: nothing, or its escape, a string of one character
+pub data IsEscape : List TokenTree → Option ℕ → Type 0 where
+  unescaped : IsEscape [] None
+  escaped_by : {bs : List ℕ} {c : ℕ} → chars bs ≡ c ∷ [] → IsEscape (keyword_token keywords.Escape ∷ string_token bs ∷ []) (Some c)
+
 -- what may stand behind a column, or behind a `not` there
 pub data IsTest : List TokenTree → Condition → Type 0 where
   in_nothing : IsTest (keyword_token keywords.In ∷ opening ∷ closing ∷ []) (listed [])
   in_literals : {ts : List TokenTree} {ls : List LiteralTree} → AreLiterals ts ls → IsTest (keyword_token keywords.In ∷ opening ∷ (ts ++ closing ∷ [])) (listed ls)
   between_literals : {x y : TokenTree} {lower upper : LiteralTree} → literal_of x ≡ Some lower → literal_of y ≡ Some upper → IsTest (keyword_token keywords.Between ∷ x ∷ keyword_token keywords.And ∷ y ∷ []) (between lower upper)
-  like_pattern : {pattern bs : List ℕ} → pattern_prefix false pattern ≡ Some bs → is_utf8 bs ≡ true → IsTest (keyword_token keywords.Like ∷ string_token pattern ∷ []) (begun (text_literal bs))
-  like_escaped : {pattern bs : List ℕ} → pattern_prefix true pattern ≡ Some bs → is_utf8 bs ≡ true → IsTest (keyword_token keywords.Like ∷ string_token pattern ∷ keyword_token keywords.Escape ∷ string_token (92 ∷ []) ∷ []) (begun (text_literal bs))
+  like_pattern : {pattern : List ℕ} {ts : List TokenTree} {escape : Option ℕ} {parts : List Part} → IsEscape ts escape → pattern_of escape (chars pattern) ≡ Some parts → IsTest (keyword_token keywords.Like ∷ string_token pattern ∷ ts) (alike Sensitive parts)
+  ilike_pattern : {pattern : List ℕ} {ts : List TokenTree} {escape : Option ℕ} {parts : List Part} → IsEscape ts escape → pattern_of escape (chars pattern) ≡ Some parts → IsTest (keyword_token keywords.Ilike ∷ string_token pattern ∷ ts) (alike Insensitive parts)
 
 -- what may stand behind a column
 pub data IsCondition : List TokenTree → Condition → Type 0 where

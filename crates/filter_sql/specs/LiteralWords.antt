@@ -3,7 +3,7 @@ use Rattle.std.specs.Prelude.{◌≡◌, ◌&&◌, ℕ, ℤ, Bool, true, false, 
 use Rattle.std.specs.String.{string_bytes}
 use Rattle.vortex_dtype.specs.TypeTree.{TypeTree}
 use Rattle.vortex_cells.specs.Cells.{Cell}
-use Rattle.vortex_filter.specs.Formula.{Formula, constant, comparison, null_test, membership, range, prefix_test, both, either, negation}
+use Rattle.vortex_filter.specs.Formula.{Formula, constant, comparison, null_test, membership, range, prefix_test, pattern_test, both, either, negation}
 use Rattle.vortex_filter.specs.LogicalValues.{IsLogicalValue}
 use Rattle.logical_scalars.specs.TypeShapes.{shape_in}
 use Rattle.logical_types.specs.Words.{Writes}
@@ -89,6 +89,7 @@ words_behind (null_test k) ws = ws
 words_behind (membership k xs) ws = drop (length xs) ws
 words_behind (range k x y) ws = drop 2 ws
 words_behind (prefix_test k x) ws = drop 1 ws
+words_behind (pattern_test k case parts) ws = ws
 words_behind (both p q) ws = words_behind q (words_behind p ws)
 words_behind (either p q) ws = words_behind q (words_behind p ws)
 words_behind (negation p) ws = words_behind p ws
@@ -101,6 +102,7 @@ AreWordsOf ws (null_test k) = Unit {0}
 AreWordsOf ws (membership k xs) = AreWordsOfEach ws xs
 AreWordsOf ws (range k x y) = IsWordOf (first_word ws) x × IsWordOf (first_word (drop 1 ws)) y
 AreWordsOf ws (prefix_test k x) = IsWordOf (first_word ws) x
+AreWordsOf ws (pattern_test k case parts) = Unit {0}
 AreWordsOf ws (both p q) = AreWordsOf ws p × AreWordsOf (words_behind p ws) q
 AreWordsOf ws (either p q) = AreWordsOf ws p × AreWordsOf (words_behind p ws) q
 AreWordsOf ws (negation p) = AreWordsOf ws p

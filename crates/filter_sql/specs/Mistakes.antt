@@ -1,6 +1,6 @@
 -- What is wrong with tokens of which nothing is read: the first mistake from the front, and how many tokens are left there.
 use Rattle.std.specs.Prelude.{◌≡◌, ◌==◌, ◌-◌, ℕ, zero, suc, Bool, true, false, is_some, List, [], ◌∷◌, length, Option, Some, None, Result, Ok, Err, if◌then◌else◌, slice_get}
-use Rattle.std.specs.Str.{is_utf8}
+use Rattle.std.specs.Str.{chars}
 use Rattle.vortex_dtype.specs.TypeTree.{TypeTree, bool_type, integer_type, utf8_type, binary_type, extension_type}
 use Rattle.filter_sql.specs.declared.error.Expected.{Expected}
 use Rattle.filter_sql.specs.declared.error.Expected.TheVariants as expects
@@ -16,14 +16,14 @@ use Rattle.filter_sql.specs.declared.print.Level.{Level}
 use Rattle.filter_sql.specs.declared.print.Level.TheVariants as levels
 use Rattle.filter_sql.specs.declared.token.Keyword.TheVariants as keywords
 use Rattle.vortex_filter.specs.declared.filter.Filter.{Filter}
+use Rattle.like_patterns.specs.Texts.{pattern_of}
 use Rattle.filter_sql.specs.ColumnNames.{ColumnTree, column_named}
 use Rattle.filter_sql.specs.Lexing.{fault_at}
-use Rattle.vortex_filter.specs.CheckSteps.{holds_strings}
 use Rattle.logical_scalars.specs.TypeShapes.{shape_in}
 use Rattle.logical_types.specs.Shapes.{Shape, float64, float32, decimals}
 use Rattle.vortex_filter.specs.Literals.{LiteralTree, number_literal}
 use Rattle.vortex_filter.specs.Positions.{PositionTree}
-use Rattle.filter_sql.specs.Literals.{literal_of, pattern_prefix}
+use Rattle.filter_sql.specs.Literals.{literal_of}
 use Rattle.filter_sql.specs.Reading.{Read, after_closing, after_comma, after_keyword, after_opening, chosen, conjunction_of, disjunction_of, escape_at, name_at, operand_of, operator_at, position_at, predicate_at, reads, string_at, token_position}
 use Rattle.filter_sql.specs.Texts.{Item}
 use Rattle.filter_sql.specs.Tokens.{TokenTree, comma}
@@ -127,26 +127,24 @@ range_mistake t ts =
 
 -- behind a pattern
 unfoldable pub escape_mistake : List TokenTree → TokenError
-escape_mistake ts = chosen (after_keyword keywords.Escape ts) (λ us. expected us expects.Backslash) (expected ts expects.Backslash)
+escape_mistake ts = chosen (after_keyword keywords.Escape ts) (λ us. expected us expects.Escape) (expected ts expects.Escape)
 
--- why bytes are no prefix in a column of the type: they are no string, or the column holds none
-abbrev pub text_cause : TypeTree → List ℕ → Cause
-text_cause t bs = if is_utf8 bs then other_type t else causes.Expected expects.Prefix
-
--- behind `like`: a pattern that is none of a prefix is told at its offset, once it is known whether a byte escapes
+-- behind `like` or `ilike`: a pattern that its escape ends, or that no string of the column is compared with, is told at its
+-- offset, once the escape is known
 unfoldable pub like_mistake : TypeTree → List TokenTree → TokenError
 like_mistake t ts =
     chosen (string_at ts)
     (λ pattern. chosen (escape_at pattern.1)
-    (λ escape. chosen (pattern_prefix escape.0 pattern.0) (λ bs. faults.At (length ts) (text_cause t bs)) (expected ts expects.Prefix))
+    (λ escape. chosen (pattern_of escape.0 (chars pattern.0)) (λ parts. faults.At (length ts) (other_type t)) (expected ts expects.Pattern))
     (escape_mistake pattern.1))
-    (expected ts expects.Prefix)
+    (expected ts expects.Pattern)
 
 unfoldable pub test_mistake : TypeTree → List TokenTree → TokenError
 test_mistake t ts =
     chosen (after_keyword keywords.In ts) (members_mistake t)
     (chosen (after_keyword keywords.Between ts) (range_mistake t)
-    (chosen (after_keyword keywords.Like ts) (like_mistake t) (expected ts expects.Operator)))
+    (chosen (after_keyword keywords.Ilike ts) (like_mistake t)
+    (chosen (after_keyword keywords.Like ts) (like_mistake t) (expected ts expects.Operator))))
 
 -- behind `is`
 unfoldable pub null_test_mistake : List TokenTree → TokenError
@@ -161,11 +159,7 @@ condition_mistake t ts =
 
 -- ---- predicates
 
--- why a literal of a column's type is no prefix: the column holds neither strings nor bytes, or the literal is a number
-abbrev pub prefix_cause : TypeTree → Cause
-prefix_cause t = if holds_strings t then causes.Expected expects.Prefix else causes.TypesDiffer
-
--- behind `starts_with`
+-- behind `starts_with`; a column that holds neither strings nor bytes is told where the literal stands
 unfoldable pub prefix_call_mistake : List ColumnTree → List TokenTree → TokenError
 prefix_call_mistake columns ts =
     chosen (after_opening ts)
@@ -173,7 +167,7 @@ prefix_call_mistake columns ts =
     (λ name. chosen (column_named columns name.0)
     (λ column. chosen (after_comma name.1)
     (λ vs. chosen (position_at column.1 vs)
-    (λ prefix. chosen (after_closing prefix.1) (λ ws. faults.At (length vs) (prefix_cause column.1)) (expected prefix.1 expects.Closing))
+    (λ prefix. chosen (after_closing prefix.1) (λ ws. faults.At (length vs) causes.TypesDiffer) (expected prefix.1 expects.Closing))
     (literal_mistake column.1 vs))
     (expected name.1 expects.Comma))
     (faults.At (length us) causes.NoColumn))

@@ -1,11 +1,15 @@
 -- When a text is a filter, when it is refused, and which filters are read from their own text.
 use Rattle.std.specs.Prelude.{◌≡◌, ◌⊎◌, ◌<◌, ℕ, ℤ, suc, max, true, false, Bool, List, map, Result, MatchResult, None, Some, slice_get}
 use Rattle.std.specs.List.{AllByRecursion}
-use Rattle.std.specs.Str.{IsUtf8}
+use Rattle.std.specs.Str.{IsUtf8, all_scalars}
+use Rattle.vortex_dtype.specs.declared.nullability.Nullability.{Nullability}
 use Rattle.vortex_dtype.specs.TypeTree.{TypeTree, bool_type, integer_type, utf8_type, binary_type, extension_type}
 use Rattle.vortex_pvalue.specs.Numbers.{InRange}
 use Rattle.vortex_value.specs.TypesWithin.{HasNoVariant}
 use Rattle.vortex_cells.specs.Cells.{Cell}
+use Rattle.like_patterns.specs.declared.case.Case.{Case}
+use Rattle.like_patterns.specs.Patterns.{Part}
+use Rattle.like_patterns.specs.Texts.{pattern_text}
 use Rattle.vortex_filter.specs.declared.filter.Filter.{Filter}
 use Rattle.filter_sql.specs.declared.error.ParseError.{ParseError}
 use Rattle.filter_sql.specs.declared.error.ParseError.TheVariants as errors
@@ -13,8 +17,9 @@ use Rattle.filter_sql.specs.declared.lex.Ending.{Ending}
 use Rattle.filter_sql.specs.declared.print.Level.{Level}
 use Rattle.filter_sql.specs.declared.print.Level.TheVariants as levels
 use Rattle.filter_sql.specs.ColumnNames.{ColumnTree, column_named}
-use Rattle.vortex_filter.specs.Formula.{Formula, formula, constant, comparison, null_test, membership, range, prefix_test, both, either, negation}
+use Rattle.vortex_filter.specs.Formula.{Formula, formula, constant, comparison, null_test, membership, range, prefix_test, pattern_test, both, either, negation}
 use Rattle.filter_sql.specs.Grammar.{IsFilter}
+use Rattle.filter_sql.specs.Literals.{prefix_asked}
 use Rattle.vortex_filter.specs.CheckSteps.{holds_strings}
 use Rattle.vortex_filter.specs.Literals.{null_cell, truth_cell, number_cell, text_cell, bytes_cell}
 use Rattle.logical_types.specs.declared.logical.LogicalType.{LogicalType}
@@ -92,6 +97,11 @@ IsLiteral t x = (x ≡ null_cell t) ⊎ IsValueLiteral t x
 abbrev pub IsFound : List ColumnTree → List (List ℕ) → ℕ → TypeTree → Type 0
 IsFound columns names k t = column_named columns (column_name names k) ≡ Some (k, t)
 
+-- the pattern is of Unicode scalar values, and asks for more than a prefix, which is read as one
+pub record IsMoreThanPrefix (case : Case) (parts : List Part) : Type 0 where
+  pub scalars : all_scalars (pattern_text parts) ≡ true
+  pub no_prefix : prefix_asked case parts ≡ None
+
 -- each column is found by its name, and each literal is one of its column's type
 abbrev pub IsReadable : List ColumnTree → List (List ℕ) → Formula → Type 0
 IsReadable columns names (constant t) = Unit {0}
@@ -100,6 +110,7 @@ IsReadable columns names (null_test k) = (t : TypeTree) × IsFound columns names
 IsReadable columns names (membership k xs) = (t : TypeTree) × IsFound columns names k t × AllByRecursion (IsLiteral t) xs
 IsReadable columns names (range k x y) = (t : TypeTree) × IsFound columns names k t × IsLiteral t x × IsLiteral t y
 IsReadable columns names (prefix_test k x) = (t : TypeTree) × IsFound columns names k t × (holds_strings t ≡ true) × IsLiteral t x
+IsReadable columns names (pattern_test k case parts) = (n : Nullability) × IsFound columns names k (utf8_type n) × IsMoreThanPrefix case parts
 IsReadable columns names (both p q) = IsReadable columns names p × IsReadable columns names q
 IsReadable columns names (either p q) = IsReadable columns names p × IsReadable columns names q
 IsReadable columns names (negation p) = IsReadable columns names p

@@ -3,6 +3,7 @@ use Rattle.std.specs.Prelude.{◌≡◌, ◌==◌, ◌&&◌, ◌||◌, not, ◌+
 use Rattle.std.specs.Fmt.{decimal}
 use Rattle.std.specs.List.{flat_map, list_any}
 use Rattle.std.specs.Option.{unwrap_or}
+use Rattle.std.specs.Str.{encode_utf8_all}
 use Rattle.std.specs.String.{string_bytes}
 use Rattle.vortex_cells.specs.Cells.{Cell, is_null_cell}
 use Rattle.vortex_value.specs.Values.Content.{Content, null, truth, whole, text, string, sequence, no_contents}
@@ -13,9 +14,13 @@ use Rattle.filter_sql.specs.declared.print.Level.TheVariants as levels
 use Rattle.filter_sql.specs.declared.print.Sql.{Sql}
 use Rattle.filter_sql.specs.declared.token.Keyword.{Keyword}
 use Rattle.filter_sql.specs.declared.token.Keyword.TheVariants as keywords
+use Rattle.like_patterns.specs.declared.case.Case.{Case}
+use Rattle.like_patterns.specs.Patterns.{Part}
+use Rattle.like_patterns.specs.Texts.{has_special, pattern_text}
 use Rattle.vortex_filter.specs.declared.truth.Truth.{Truth}
 use Rattle.vortex_filter.specs.declared.truth.Truth.TheVariants as truths
-use Rattle.vortex_filter.specs.Formula.{Formula, formula, constant, comparison, null_test, membership, range, prefix_test, both, either, negation}
+use Rattle.vortex_filter.specs.Formula.{Formula, formula, constant, comparison, null_test, membership, range, prefix_test, pattern_test, both, either, negation}
+use Rattle.filter_sql.specs.Literals.{like_keyword}
 use Rattle.filter_sql.specs.LiteralWords.{AreWordsOf, LiteralWords, WordTree, first_word, is_logical, token_of_word, word_trees, words_behind}
 use Rattle.filter_sql.specs.Tokens.{TokenTree, keyword_token, name_token, number_token, string_token, bytes_token, operator_token, opening, closing, comma, verbatim, canonical}
 
@@ -61,7 +66,7 @@ literal_tokens ws [] = []
 literal_tokens ws (x ∷ []) = literal_token (first_word ws) x ∷ []
 literal_tokens ws (x ∷ y ∷ xs) = literal_token (first_word ws) x ∷ comma ∷ literal_tokens (drop 1 ws) (y ∷ xs)
 
--- ---- prefixes
+-- ---- prefixes and patterns
 
 -- what has a meaning of its own in a pattern: %, _ and \
 abbrev pub is_special : ℕ → Bool
@@ -74,12 +79,17 @@ escaped_byte b = if is_special b then 92 ∷ b ∷ [] else b ∷ []
 abbrev pub prefix_pattern : List ℕ → List ℕ
 prefix_pattern prefix = flat_map escaped_byte prefix ++ 37 ∷ []
 
--- which byte escapes, if one is escaped
-abbrev pub escape_tokens : List ℕ → List TokenTree
-escape_tokens prefix = if list_any is_special prefix then keyword_token keywords.Escape ∷ string_token (92 ∷ []) ∷ [] else []
+-- that \ escapes, if something is escaped
+abbrev pub escape_tokens : Bool → List TokenTree
+escape_tokens true = keyword_token keywords.Escape ∷ string_token (92 ∷ []) ∷ []
+escape_tokens false = []
 
 abbrev pub like_tokens : TokenTree → List ℕ → List TokenTree
-like_tokens column prefix = column ∷ keyword_token keywords.Like ∷ string_token (prefix_pattern prefix) ∷ escape_tokens prefix
+like_tokens column prefix = column ∷ keyword_token keywords.Like ∷ string_token (prefix_pattern prefix) ∷ escape_tokens (list_any is_special prefix)
+
+-- by `like`, or by `ilike`
+abbrev pub pattern_tokens : Case → List Part → List TokenTree
+pattern_tokens case parts = keyword_token (like_keyword case) ∷ string_token (encode_utf8_all (pattern_text parts)) ∷ escape_tokens (has_special parts)
 
 abbrev pub starts_with_tokens : TokenTree → TokenTree → List TokenTree
 starts_with_tokens column prefix = keyword_token keywords.StartsWith ∷ opening ∷ column ∷ comma ∷ prefix ∷ closing ∷ []
@@ -139,6 +149,7 @@ tokens_at names ws level (null_test k) = column_token names k ∷ null_test_toke
 tokens_at names ws level (membership k literals) = column_token names k ∷ membership_tokens false ws literals
 tokens_at names ws level (range k lower upper) = column_token names k ∷ range_tokens false ws lower upper
 tokens_at names ws level (prefix_test k prefix) = prefix_tokens (column_token names k) (literal_token (first_word ws) prefix) prefix.content
+tokens_at names ws level (pattern_test k case parts) = column_token names k ∷ pattern_tokens case parts
 tokens_at names ws level (both p q) = grouped (groups_and level) (tokens_at names ws levels.Not p ++ (keyword_token keywords.And ∷ tokens_at names (words_behind p ws) levels.And q))
 tokens_at names ws level (either p q) = grouped (groups_or level) (tokens_at names ws levels.And p ++ (keyword_token keywords.Or ∷ tokens_at names (words_behind p ws) levels.Or q))
 tokens_at names ws level (negation (null_test k)) = column_token names k ∷ null_test_tokens true

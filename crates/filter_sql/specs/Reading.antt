@@ -1,20 +1,23 @@
 -- Reading tokens from the front, as the private functions of the parser do: what is read, and what follows it.
-use Rattle.std.specs.Prelude.{◌==◌, ◌++◌, ℕ, zero, suc, Bool, true, false, List, [], ◌∷◌, Option, Some, None, option_and_then, if◌then◌else◌}
-use Rattle.std.specs.Str.{bytes_eq, is_utf8}
+use Rattle.std.specs.Prelude.{◌==◌, ◌++◌, ℕ, zero, suc, Bool, false, List, [], ◌∷◌, Option, Some, None, option_and_then, if◌then◌else◌}
+use Rattle.std.specs.Str.{chars}
 use Rattle.vortex_dtype.specs.TypeTree.{TypeTree, utf8_type}
+use Rattle.like_patterns.specs.declared.case.Case.{Case}
+use Rattle.like_patterns.specs.declared.case.Case.TheVariants.{Sensitive, Insensitive}
+use Rattle.like_patterns.specs.Texts.{pattern_of}
 use Rattle.vortex_cells.specs.Cells.{Cell}
 use Rattle.vortex_filter.specs.declared.operator.CompareOperator.{CompareOperator}
 use Rattle.filter_sql.specs.declared.print.Level.{Level}
 use Rattle.filter_sql.specs.declared.print.Level.TheVariants as levels
 use Rattle.filter_sql.specs.declared.token.Keyword.{Keyword}
-use Rattle.filter_sql.specs.declared.token.Keyword.TheVariants.{And, Or, Not, In, Is, Null, Between, Like, Escape, True, False, StartsWith}
+use Rattle.filter_sql.specs.declared.token.Keyword.TheVariants.{And, Or, Not, In, Is, Null, Between, Like, Ilike, Escape, True, False, StartsWith}
 use Rattle.vortex_filter.specs.declared.truth.Truth.TheVariants as truths
 use Rattle.filter_sql.specs.ColumnNames.{ColumnTree, column_named}
 use Rattle.vortex_filter.specs.Formula.{Formula, constant, null_test, membership, both, either, negation}
 use Rattle.vortex_filter.specs.CheckSteps.{holds_strings}
 use Rattle.vortex_filter.specs.Literals.{position_of, text_in}
 use Rattle.vortex_filter.specs.Positions.{PositionTree, cells_of, comparison_of, member_of, prefix_of, range_of}
-use Rattle.filter_sql.specs.Literals.{literal_of, pattern_prefix}
+use Rattle.filter_sql.specs.Literals.{like_in, literal_of}
 use Rattle.filter_sql.specs.Tokens.{TokenTree, keyword_token, name_token, string_token, operator_token, opening, closing, comma}
 
 infixl 10 ◌>>=◌
@@ -29,7 +32,7 @@ chosen (Some x) f d = f x
 
 -- ---- single tokens
 
--- the number of the keyword among the twelve
+-- the number of the keyword among the thirteen
 abbrev pub keyword_index : Keyword → ℕ
 keyword_index And = 0
 keyword_index Or = 1
@@ -39,10 +42,11 @@ keyword_index Is = 4
 keyword_index Null = 5
 keyword_index Between = 6
 keyword_index Like = 7
-keyword_index Escape = 8
-keyword_index True = 9
-keyword_index False = 10
-keyword_index StartsWith = 11
+keyword_index Ilike = 8
+keyword_index Escape = 9
+keyword_index True = 10
+keyword_index False = 11
+keyword_index StartsWith = 12
 
 abbrev pub same_keyword : Keyword → Keyword → Bool
 same_keyword k l = keyword_index k == keyword_index l
@@ -140,42 +144,37 @@ range_at k t ts = do
   upper ← position_at t us
   Some (range_of k lower.0 upper.0, upper.1)
 
--- the backslash behind `escape`
-abbrev pub backslash : List ℕ → List TokenTree → Option (Bool × List TokenTree)
-backslash bs ts = if bytes_eq bs (92 ∷ []) then Some (true, ts) else None
+-- the character, if there is just one
+abbrev pub only_one : List ℕ → Option ℕ
+only_one [] = None
+only_one (c ∷ []) = Some c
+only_one (c ∷ d ∷ cs) = None
 
--- whether an `escape` comes next
-unfoldable pub escape_at : List TokenTree → Option (Bool × List TokenTree)
-escape_at ts = chosen (after_keyword Escape ts) (λ us. string_at us >>= λ x. backslash x.0 x.1) (Some (false, ts))
+-- the escape that a string is, and what follows it
+abbrev pub escape_then : Option ℕ → List TokenTree → Option (Option ℕ × List TokenTree)
+escape_then None ts = None
+escape_then (Some c) ts = Some (Some c, ts)
 
--- bytes that were read before, and those that are still read
-abbrev pub with_bytes : List ℕ → Option (List ℕ) → Option (List ℕ)
-with_bytes front None = None
-with_bytes front (Some bs) = Some (front ++ bs)
-
--- of a pattern that begins with no byte of a prefix, the prefix: none but of %
-abbrev pub ending : List ℕ → Option (List ℕ)
-ending bs = if bytes_eq bs (37 ∷ []) then Some [] else None
+-- the escape that comes next, or none, and what follows
+unfoldable pub escape_at : List TokenTree → Option (Option ℕ × List TokenTree)
+escape_at ts = chosen (after_keyword Escape ts) (λ us. string_at us >>= λ x. escape_then (only_one (chars x.0)) x.1) (Some (None, ts))
 
 -- a string in a column of strings
 abbrev pub string_in : TypeTree → List ℕ → Option PositionTree
 string_in (utf8_type n) bs = text_in (utf8_type n) bs
 string_in _ bs = None
 
--- bytes that are a prefix in a column of strings
-unfoldable pub text_prefix : ℕ → TypeTree → List ℕ → Option Formula
-text_prefix k t bs = if is_utf8 bs then (string_in t bs >>= prefix_of k) else None
-
-unfoldable pub like_at : ℕ → TypeTree → List TokenTree → Read
-like_at k t ts = do
+-- the test behind `like` or `ilike`
+unfoldable pub like_at : ℕ → TypeTree → Case → List TokenTree → Read
+like_at k t case ts = do
   pattern ← string_at ts
   escape ← escape_at pattern.1
-  bs ← pattern_prefix escape.0 pattern.0
-  f ← text_prefix k t bs
+  parts ← pattern_of escape.0 (chars pattern.0)
+  f ← like_in k t case parts
   Some (f, escape.1)
 
 unfoldable pub test_at : ℕ → TypeTree → List TokenTree → Read
-test_at k t ts = chosen (after_keyword In ts) (members_at k t) (chosen (after_keyword Between ts) (range_at k t) (after_keyword Like ts >>= like_at k t))
+test_at k t ts = chosen (after_keyword In ts) (members_at k t) (chosen (after_keyword Between ts) (range_at k t) (chosen (after_keyword Ilike ts) (like_at k t Insensitive) (after_keyword Like ts >>= like_at k t Sensitive)))
 
 unfoldable pub comparison_at : ℕ → TypeTree → CompareOperator → List TokenTree → Read
 comparison_at k t op ts = position_at t ts >>= λ x. Some (comparison_of k op x.0, x.1)

@@ -1,8 +1,10 @@
 -- Worked cases of SQL text, each a theorem.
-use Rattle.std.specs.Prelude.{◌≡◌, ⊤, ℕ, true, pos, negsuc, List, [], ◌∷◌, refl, codes, Option, Some, None, Ok, Err}
+use Rattle.std.specs.Prelude.{◌≡◌, ⊤, ℕ, pos, negsuc, List, [], ◌∷◌, refl, codes, Option, Some, None, Ok, Err}
+use Rattle.std.specs.Char.{encode_utf8}
 use Rattle.std.specs.Fmt.{digits}
+use Rattle.std.specs.Str.{chars}
 use Rattle.hex.specs.Hex.{decode_pairs, encode_with}
-use Rattle.vortex_dtype.specs.TypeTree.{extension_type, integer_type, null_type}
+use Rattle.vortex_dtype.specs.TypeTree.{extension_type, integer_type, null_type, utf8_type}
 use Rattle.vortex_dtype.specs.declared.nullability.Nullability.TheVariants.{NonNullable, Nullable}
 use Rattle.vortex_dtype.specs.declared.ptype.PType.TheVariants.{I32, I64, U8}
 use Rattle.vortex_cells.specs.Cells.{Cell}
@@ -16,20 +18,23 @@ use Rattle.filter_sql.specs.declared.parsing.errors.TokenError.TheVariants as fa
 use Rattle.filter_sql.specs.declared.token.Keyword.TheVariants.{And, In, Not, Or}
 use Rattle.filter_sql.specs.declared.token.Keyword.TheVariants as keywords
 use Rattle.vortex_filter.specs.declared.truth.Truth.TheVariants.{True, Unknown}
-use Rattle.vortex_filter.specs.Formula.{Formula, constant, comparison, null_test, membership, range, prefix_test, both, either, negation}
+use Rattle.vortex_filter.specs.Formula.{Formula, constant, comparison, null_test, membership, range, prefix_test, pattern_test, both, either, negation}
+use Rattle.like_patterns.specs.declared.case.Case.TheVariants.{Sensitive, Insensitive}
+use Rattle.like_patterns.specs.Patterns.{literal, any_character, any_string}
+use Rattle.like_patterns.specs.Texts.{parts_from}
 use Rattle.filter_sql.specs.Lexing.{after_digits, after_fraction, after_power, bytes_at, mark_of, number_at, parameter_at, token_at, unquoted_at, word_at}
 use Rattle.filter_sql.specs.Tokens.{bytes_token, closing, number_token, keyword_named, keyword_token, name_token, opening, operator_token, string_token}
 use Rattle.filter_sql.specs.LiteralWords.{bare_word, quoted_word}
 use Rattle.filter_sql.specs.Printing.{sql_text}
 use Rattle.filter_sql.specs.ColumnNames.{ColumnTree, column_named, numbered_place}
-use Rattle.vortex_filter.specs.Literals.{number_cell, number_literal, text_literal}
-use Rattle.filter_sql.specs.Literals.{Condition, between, compared, formula_in, listed, literal_of, pattern_prefix}
+use Rattle.vortex_filter.specs.Literals.{number_cell, number_literal, text_cell, text_literal}
+use Rattle.filter_sql.specs.Literals.{Condition, alike, between, compared, formula_in, listed, literal_of}
 use Rattle.filter_sql.specs.Mistakes.{cells_mistake, condition_mistake, conjunction_mistake, disjunction_mistake, escape_mistake, filter_mistake, group_mistake, like_mistake, literal_mistake, members_mistake, mistake_at, mistakes, more_mistake, operand_mistake, predicate_mistake, test_mistake}
-use Rattle.filter_sql.specs.Reading.{after_closing, after_comma, after_keyword, after_opening, and_from, cells_at, comparison_at, condition_at, conjunction_of, constant_at, disjunction_of, escape_at, group_of, like_at, members_at, more_cells, name_at, operand_from, operand_of, operator_at, or_from, position_at, predicate_at, read_at, reads, string_at, test_at, text_prefix, token_position}
+use Rattle.filter_sql.specs.Reading.{after_closing, after_comma, after_keyword, after_opening, and_from, cells_at, comparison_at, condition_at, conjunction_of, constant_at, disjunction_of, escape_at, group_of, like_at, members_at, more_cells, name_at, operand_from, operand_of, operator_at, or_from, position_at, predicate_at, read_at, reads, string_at, test_at, token_position}
 
 -- what the proofs compute by
 unfoldable on_texts : ⊤
-unfolding after_digits after_fraction after_power bytes_at decode_pairs digits encode_with keyword_named mark_of number_at parameter_at token_at unquoted_at word_at
+unfolding after_digits after_fraction after_power bytes_at decode_pairs digits encode_utf8 encode_with keyword_named mark_of number_at parameter_at token_at unquoted_at word_at
 on_texts = tt
 
 -- Tokens, and what follows each.
@@ -99,6 +104,13 @@ pub prefixes :
 unfolding on_texts
 prefixes = (refl, refl, refl)
 
+pub patterns :
+    (sql_text [] [] (pattern_test 0 Sensitive (literal 97 ∷ any_character ∷ any_string ∷ [])) ≡ codes "\"$1\" like 'a_%'")
+    × (sql_text [] [] (pattern_test 0 Insensitive (any_string ∷ literal 39 ∷ literal 37 ∷ [])) ≡ codes "\"$1\" ilike '%''\\%' escape '\\'")
+    × (sql_text [] [] (negation (pattern_test 0 Sensitive (any_string ∷ literal 98 ∷ []))) ≡ codes "not \"$1\" like '%b'")
+unfolding on_texts
+patterns = (refl, refl, refl)
+
 -- by words of values of logical types, in reading order: a number bare, and anything else in quotes
 abbrev some : Cell
 some = cell (whole (pos 1))
@@ -133,6 +145,15 @@ pub conditions :
 unfolding place_in
 conditions = (refl, refl, refl, refl, refl)
 
+-- s like 'a%' is told by its prefix, s like 'a_' and s ilike 'a%' are not; and x like ''
+pub likes :
+    (formula_in 0 (utf8_type Nullable) (alike Sensitive (literal 97 ∷ any_string ∷ [])) ≡ Some (prefix_test 0 (text_cell (codes "a"))))
+    × (formula_in 0 (utf8_type Nullable) (alike Sensitive (literal 97 ∷ any_character ∷ [])) ≡ Some (pattern_test 0 Sensitive (literal 97 ∷ any_character ∷ [])))
+    × (formula_in 0 (utf8_type Nullable) (alike Insensitive (literal 97 ∷ any_string ∷ [])) ≡ Some (pattern_test 0 Insensitive (literal 97 ∷ any_string ∷ [])))
+    × (of_byte (alike Sensitive []) ≡ None)
+unfolding encode_utf8
+likes = (refl, refl, refl, refl)
+
 -- Mistakes, by how many tokens are left.
 
 abbrev pub one_column : List ColumnTree
@@ -140,7 +161,7 @@ one_column = record { name = codes "a"; typed = integer_type I32 Nullable } ∷ 
 
 -- what the proofs compute by
 unfoldable on_mistakes : ⊤
-unfolding after_closing after_comma after_keyword after_opening and_from cells_at cells_mistake column_named comparison_at condition_at condition_mistake conjunction_mistake conjunction_of constant_at disjunction_mistake disjunction_of escape_at escape_mistake filter_mistake group_mistake group_of like_at like_mistake literal_mistake literal_of members_at members_mistake mistake_at mistakes more_cells more_mistake name_at numbered_place operand_from operand_mistake operand_of operator_at or_from pattern_prefix place_in position_at predicate_at predicate_mistake read_at reads string_at test_at test_mistake text_prefix token_position
+unfolding after_closing after_comma after_keyword after_opening and_from cells_at cells_mistake chars column_named comparison_at condition_at condition_mistake conjunction_mistake conjunction_of constant_at disjunction_mistake disjunction_of escape_at escape_mistake filter_mistake group_mistake group_of like_at like_mistake literal_mistake literal_of members_at members_mistake mistake_at mistakes more_cells more_mistake name_at numbered_place operand_from operand_mistake operand_of operator_at or_from parts_from place_in position_at predicate_at predicate_mistake read_at reads string_at test_at test_mistake token_position
 on_mistakes = tt
 
 -- a 3
@@ -161,6 +182,18 @@ pub mistakes_at_last :
     × (filter_mistake one_column 9 (name_token (codes "a") ∷ operator_token Eq ∷ string_token (codes "x") ∷ []) ≡ faults.At 1 causes.TypesDiffer)
 unfolding on_mistakes
 mistakes_at_last = (refl, refl)
+
+-- s like 'a!' escape '!', s like 'a' escape '', s ilike 1, and: a like 'b_'
+abbrev pub text_column : List ColumnTree
+text_column = record { name = codes "s"; typed = utf8_type Nullable } ∷ []
+
+pub mistakes_of_patterns :
+    (filter_mistake text_column 9 (name_token (codes "s") ∷ keyword_token keywords.Like ∷ string_token (codes "a!") ∷ keyword_token keywords.Escape ∷ string_token (codes "!") ∷ []) ≡ faults.At 3 (causes.Expected expects.Pattern))
+    × (filter_mistake text_column 9 (name_token (codes "s") ∷ keyword_token keywords.Like ∷ string_token (codes "a") ∷ keyword_token keywords.Escape ∷ string_token [] ∷ []) ≡ faults.At 1 (causes.Expected expects.Escape))
+    × (filter_mistake text_column 9 (name_token (codes "s") ∷ keyword_token keywords.Ilike ∷ number_token (codes "1") ∷ []) ≡ faults.At 1 (causes.Expected expects.Pattern))
+    × (filter_mistake one_column 9 (name_token (codes "a") ∷ keyword_token keywords.Like ∷ string_token (codes "b_") ∷ []) ≡ faults.At 1 causes.TypesDiffer)
+unfolding on_mistakes
+mistakes_of_patterns = (refl, refl, refl, refl)
 
 -- not not true, where one may nest
 pub too_deep_there : filter_mistake one_column 1 (keyword_token Not ∷ keyword_token Not ∷ keyword_token keywords.True ∷ []) ≡ faults.At 1 causes.TooDeep

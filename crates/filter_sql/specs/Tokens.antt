@@ -61,6 +61,7 @@ keyword_text keywords.Is = codes "is"
 keyword_text keywords.Null = codes "null"
 keyword_text keywords.Between = codes "between"
 keyword_text keywords.Like = codes "like"
+keyword_text keywords.Ilike = codes "ilike"
 keyword_text keywords.Escape = codes "escape"
 keyword_text keywords.True = codes "true"
 keyword_text keywords.False = codes "false"
@@ -181,7 +182,7 @@ AreTokens ts = AllByRecursion IsToken ts
 -- ---- every spelling that is read
 
 abbrev pub all_keywords : List Keyword
-all_keywords = keywords.And ∷ keywords.Or ∷ keywords.Not ∷ keywords.In ∷ keywords.Is ∷ keywords.Null ∷ keywords.Between ∷ keywords.Like ∷ keywords.Escape ∷ keywords.True ∷ keywords.False ∷ keywords.StartsWith ∷ []
+all_keywords = keywords.And ∷ keywords.Or ∷ keywords.Not ∷ keywords.In ∷ keywords.Is ∷ keywords.Null ∷ keywords.Between ∷ keywords.Like ∷ keywords.Ilike ∷ keywords.Escape ∷ keywords.True ∷ keywords.False ∷ keywords.StartsWith ∷ []
 
 -- the keyword that is spelled so, in any case
 unfoldable pub keyword_named : List ℕ → Option Keyword

@@ -9,7 +9,7 @@ pub use Rattle.std.specs.String.{string_bytes}
 pub use Rattle.filter_sql.specs.Faults.{IsPlaced}
 pub use Rattle.vortex_filter.specs.Formula.{formula, negation}
 pub use Rattle.filter_sql.specs.Lexing.{Gives, after_minus, after_number, after_sign, fault_at, is_number, quoted_at, quoted_token, view}
-pub use Rattle.filter_sql.specs.Pieces.{and_text, column_text, comparison_text, escape_text, group_text, like_text, literal_text, literals_text, membership_text, null_test_text, or_text, patterned, prefix_text, quotable, range_text, starts_with_text, text_at}
+pub use Rattle.filter_sql.specs.Pieces.{and_text, column_text, comparison_text, escape_text, group_text, like_text, literal_text, literals_text, like_word, membership_text, null_test_text, or_text, pattern_test_text, patterned, prefix_text, quotable, range_text, starts_with_text, text_at}
 pub use Rattle.filter_sql.specs.Printing.{constant_keyword, is_special, names_of, prefix_pattern, sql_text}
 pub use Rattle.filter_sql.specs.Texts.{EndsAt, items, stopped}
 pub use Rattle.filter_sql.specs.Tokens.{AreTokens, TokenTree, canonical, doubled, is_word_byte, is_word_start, keyword_text, name_token, number_goes_on, operator_text, quoted, token_tree, trees}

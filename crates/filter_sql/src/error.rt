@@ -15,18 +15,18 @@ pub enum Expected {
     /// The name of a column.
     #[error("a column")]
     Column,
-    /// A comparison, `is`, `in`, `between` or `like`, the last three perhaps after `not`.
+    /// A comparison, `is`, `in`, `between`, `like` or `ilike`, the last four perhaps after `not`.
     #[error("an operator")]
     Operator,
     /// `null`, `true`, `false`, a number, a string or bytes.
     #[error("a literal")]
     Literal,
-    /// The pattern of a prefix: no wildcard but a `%` at its end.
-    #[error("a string that ends in its only wildcard, %")]
-    Prefix,
-    /// `'\'`, the one byte that escapes.
-    #[error("'\\'")]
-    Backslash,
+    /// A pattern of `like`: a string that does not end with the escape.
+    #[error("a pattern that its escape does not end")]
+    Pattern,
+    /// The escape of a pattern: a string of one character.
+    #[error("a string of one character")]
+    Escape,
     /// `null`.
     #[error("null")]
     Null,

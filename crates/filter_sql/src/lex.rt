@@ -25,7 +25,7 @@ pub(crate) enum LexError {
     BadText,
 }
 
-const KEYWORDS: [Keyword; 12] = [
+const KEYWORDS: [Keyword; 13] = [
     Keyword::And,
     Keyword::Or,
     Keyword::Not,
@@ -34,6 +34,7 @@ const KEYWORDS: [Keyword; 12] = [
     Keyword::Null,
     Keyword::Between,
     Keyword::Like,
+    Keyword::Ilike,
     Keyword::Escape,
     Keyword::True,
     Keyword::False,
@@ -53,6 +54,7 @@ pub(crate) fn keyword_text(keyword: Keyword) -> &'static str
         Keyword::Null => "null",
         Keyword::Between => "between",
         Keyword::Like => "like",
+        Keyword::Ilike => "ilike",
         Keyword::Escape => "escape",
         Keyword::True => "true",
         Keyword::False => "false",

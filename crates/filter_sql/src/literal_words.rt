@@ -65,6 +65,7 @@ fn has_logical(filter: &Filter) -> bool
             is_logical(&lower.dtype) || is_logical(&upper.dtype)
         }
         Filter::StartsWith { prefix, .. } => is_logical(&prefix.dtype),
+        Filter::Like { .. } => false,
         Filter::And(left, right) => has_logical(left) || has_logical(right),
         Filter::Or(one, other) => has_logical(one) || has_logical(other),
         Filter::Not(inner) => has_logical(inner),
@@ -103,6 +104,7 @@ fn push_words(
             push_word(alloc, upper, words)
         }
         Filter::StartsWith { prefix, .. } => push_word(alloc, prefix, words),
+        Filter::Like { .. } => Ok(()),
         Filter::And(left, right) => {
             push_words(alloc, left, words)?;
             push_words(alloc, right, words)
@@ -208,6 +210,7 @@ pub(crate) fn words_behind<'a>(filter: &Filter, words: &'a [Option<Word>]) -> &'
         Filter::Compare { .. } | Filter::StartsWith { .. } => behind(words, 1),
         Filter::In { literals, .. } => behind(words, literals.len()),
         Filter::Between { .. } => behind(words, 2),
+        Filter::Like { .. } => words,
         Filter::And(left, right) => words_behind(right, words_behind(left, words)),
         Filter::Or(one, other) => words_behind(other, words_behind(one, words)),
         Filter::Not(inner) => words_behind(inner, words),

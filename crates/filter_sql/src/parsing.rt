@@ -30,6 +30,7 @@ use crate::lex::{Ending, LexError as Unread, at, lex};
 use crate::token::Placed;
 use errors::{Cause, TokenError};
 use filters::filter_of;
+use like_patterns::laws::texts_come_back;
 use logical_scalars::laws::shapes_say_types;
 use logical_types::laws::{integers_lie_at_themselves, shapes_say_words};
 use std::alloc::Global;
@@ -44,7 +45,8 @@ pub const MAX_DEPTH: usize = 256;
 /// first column, and so on. A literal takes the column's type: in a column of numbers a string is
 /// its number, and in one of days or times it is the value that it writes. A number between two
 /// values, below or above all of them makes a comparison what it is for each value: True or False,
-/// and Unknown for a null.
+/// and Unknown for a null. A pattern of `like` that asks for a prefix alone is read as
+/// `Filter::StartsWith`, and any other one, and each of `ilike`, as `Filter::Like`.
 ///
 /// `TooDeep` if more than `MAX_DEPTH` connectives and parentheses nest. Of several mistakes the
 /// first one from the front is told. Memory is asked for the tokens of the text before the first of
@@ -93,6 +95,7 @@ pub fn parse_within(
     integers_lie_at_themselves();
     shapes_say_types();
     shapes_say_words();
+    texts_come_back();
     let lexed = lex(alloc, text)?;
     filter_in(alloc, columns, &lexed.tokens, lexed.ending, depth)
 }

@@ -3,11 +3,14 @@
 ghost use Rattle.std.specs.Prelude.{◌≡◌, ◌++◌, ◌∷◌, ◌+◌, ◌<◌, ◌==◌, [], Some, codes, drop, map, option_map};
 ghost use Rattle.std.specs.Prelude.{if◌then◌else◌, IfOk};
 ghost use Rattle.std.specs.Option.{option_copied};
+ghost use Rattle.std.specs.Str.{encode_utf8_all};
+ghost use Rattle.like_patterns.specs.Texts.{pattern_text};
 ghost use Rattle.filter_sql.specs.Words.{WritesOnOk, decimal, list_any, and_text, cell_of, chars, column_text};
 ghost use Rattle.filter_sql.specs.Words.{comparison_text, constant_keyword, doubled, encode_lower, escape_text};
-ghost use Rattle.filter_sql.specs.Words.{flat_map, formula, group_text, is_special, keyword_text, like_text};
+ghost use Rattle.filter_sql.specs.Words.{flat_map, formula, group_text, is_special, keyword_text, like_text, like_word};
 ghost use Rattle.filter_sql.specs.Words.{literal_text, literals_text, membership_text, names_of, negation};
-ghost use Rattle.filter_sql.specs.Words.{null_test_text, operator_text, or_text, patterned, prefix_pattern};
+ghost use Rattle.filter_sql.specs.Words.{null_test_text, operator_text, or_text, pattern_test_text, patterned};
+ghost use Rattle.filter_sql.specs.Words.{prefix_pattern};
 ghost use Rattle.filter_sql.specs.Words.{prefix_text, quotable, quoted, range_text, scalar_content, sql_text};
 ghost use Rattle.filter_sql.specs.Words.{starts_with_text, text_at, two_digits};
 ghost use Rattle.filter_sql.specs.LiteralWords.{first_word, token_of_word, word_tree, word_trees};
@@ -18,6 +21,7 @@ use crate::column::Column;
 use crate::lex::keyword_text;
 use crate::literal_words::{Word, is_logical, word_at, words_behind, words_of};
 use crate::token::Keyword;
+use like_patterns::{Case, Pattern};
 use std::alloc::{AllocError, Global};
 use std::fmt::{self, Display, Formatter, Write};
 use vortex_filter::{CompareOperator, Filter, Truth};
@@ -354,15 +358,11 @@ fn has_special(prefix: &[u8]) -> bool
     prefix.iter().any(|byte| is_special(*byte))
 }
 
-/// Which character escapes, if one is escaped in the prefix.
-fn escape(prefix: &str) -> &'static str
-    ensures { result.now ≡ escape_text prefix.now }
+/// Which character escapes, if one is escaped.
+fn escape(is_needed: bool) -> &'static str
+    ensures { result.now ≡ escape_text is_needed }
 {
-    if has_special(prefix.as_bytes()) {
-        " escape '\\'"
-    } else {
-        ""
-    }
+    if is_needed { " escape '\\'" } else { "" }
 }
 
 /// Writes whether a column begins so: by `like` for a string, and by `starts_with` for what is none.
@@ -393,7 +393,44 @@ fn write_like<W: Write>(
     write_column(column, columns, f)?;
     f.write_str(" like ")?;
     write_pattern(prefix, f)?;
-    f.write_str(escape(prefix))
+    f.write_str(escape(has_special(prefix.as_bytes())))
+}
+
+/// `like`, or `ilike`.
+fn like_word(case: Case) -> &'static str
+    ensures { result.now ≡ like_word case }
+{
+    match case {
+        Case::Sensitive => " like ",
+        Case::Insensitive => " ilike ",
+    }
+}
+
+/// Writes a pattern in quotes, and each quote in it twice.
+fn write_quoted_pattern<W: Write>(pattern: &Pattern, f: &mut Formatter<W>) -> fmt::Result
+    ensures { WritesOnOk W.write_str_gives f.old result
+        (quoted 39 (encode_utf8_all (pattern_text pattern.now))) f.new }
+{
+    f.write_str("'")?;
+    pattern.write_doubled('\'', f)?;
+    f.write_str("'")
+}
+
+/// Writes whether a column is like a pattern.
+fn write_pattern_test<W: Write>(
+    column: usize,
+    pattern: &Pattern,
+    case: Case,
+    columns: &[Column],
+    f: &mut Formatter<W>,
+) -> fmt::Result
+    ensures { WritesOnOk W.write_str_gives f.old result
+        (pattern_test_text (names_of columns.now) column case pattern.now) f.new }
+{
+    write_column(column, columns, f)?;
+    f.write_str(like_word(case))?;
+    write_quoted_pattern(pattern, f)?;
+    f.write_str(escape(pattern.needs_escape()))
 }
 
 fn write_starts_with<W: Write>(
@@ -449,6 +486,11 @@ fn write_filter<W: Write>(
             upper,
         } => write_range(*column, lower, upper, false, columns, words, f),
         Filter::StartsWith { column, prefix } => write_prefix(*column, prefix, columns, words, f),
+        Filter::Like {
+            column,
+            pattern,
+            case,
+        } => write_pattern_test(*column, pattern, *case, columns, f),
         Filter::And(left, right) => write_and(left, right, level == Level::Not, columns, words, f),
         Filter::Or(left, right) => write_or(left, right, level != Level::Or, columns, words, f),
         Filter::Not(filter) => write_not(filter, columns, words, f),
@@ -522,6 +564,7 @@ fn write_not<W: Write>(
         Filter::Constant(_) => write_denial(filter, columns, words, f),
         Filter::Compare { .. } => write_denial(filter, columns, words, f),
         Filter::StartsWith { .. } => write_denial(filter, columns, words, f),
+        Filter::Like { .. } => write_denial(filter, columns, words, f),
         Filter::And(_, _) => write_denial(filter, columns, words, f),
         Filter::Or(_, _) => write_denial(filter, columns, words, f),
         Filter::Not(_) => write_denial(filter, columns, words, f),

@@ -13,6 +13,7 @@ pub(crate) enum Keyword {
     Null,
     Between,
     Like,
+    Ilike,
     Escape,
     True,
     False,

@@ -1,29 +1,33 @@
 //! Tests of a column.
 
-ghost use Rattle.std.specs.Prelude.{◌≡◌, ◌==◌, ◌&&◌, ◌<◌, ◌∷◌, [], IfNone, IfOk, IfSome, length, map};
-ghost use Rattle.std.specs.Str.{bytes_eq};
+ghost use Rattle.std.specs.Prelude.{◌≡◌, [], true, IfOk, MatchResult, map};
+ghost use Rattle.std.specs.Option.{option_map};
+ghost use Rattle.std.specs.Str.{chars, encode_utf8_all};
+ghost use Rattle.like_patterns.specs.Texts.{pattern_of};
+ghost use Rattle.vortex_dtype.specs.Parts.{is_utf8_type};
 ghost use Rattle.vortex_dtype.specs.TypeOf.{type_of};
 ghost use Rattle.vortex_cells.specs.Cells.{cell_of};
 ghost use Rattle.vortex_filter.specs.FilterLiterals.{AreValid, literals_of};
-ghost use Rattle.vortex_filter.specs.Formula.{formula, membership};
-ghost use Rattle.filter_sql.specs.Literals.{is_wildcard, pattern_prefix, with_byte};
+ghost use Rattle.vortex_filter.specs.Formula.{formula, membership, prefix_test};
+ghost use Rattle.vortex_filter.specs.Literals.{text_cell};
+ghost use Rattle.filter_sql.specs.Literals.{like_in, prefix_asked};
 ghost use Rattle.filter_sql.specs.Tokens.{trees};
 ghost use Rattle.filter_sql.specs.Mistakes.{Gives, cells_mistake, condition_mistake, escape_mistake, like_mistake};
 ghost use Rattle.filter_sql.specs.Mistakes.{literal_mistake, members_mistake, more_mistake, null_test_mistake};
-ghost use Rattle.filter_sql.specs.Mistakes.{range_mistake, test_mistake, text_cause};
-ghost use Rattle.filter_sql.specs.Reading.{ending, with_front, cells_at, comparison_at, condition_at, escape_at};
-ghost use Rattle.filter_sql.specs.Reading.{like_at, members_at, more_cells, null_test_at, range_at, test_at};
-ghost use Rattle.filter_sql.specs.Reading.{text_prefix};
+ghost use Rattle.filter_sql.specs.Mistakes.{other_type, range_mistake, test_mistake};
+ghost use Rattle.filter_sql.specs.Reading.{cells_at, comparison_at, condition_at, escape_at, like_at, members_at};
+ghost use Rattle.filter_sql.specs.Reading.{more_cells, null_test_at, only_one, range_at, test_at, with_front};
 
 use crate::error::Expected;
 use crate::parsing::column_names::Found;
 use crate::parsing::errors::{Cause, TokenError};
-use crate::parsing::literals::{position_at, prefix, string_in};
+use crate::parsing::literals::{other_type, position_at, prefix, string_in};
 use crate::parsing::tokens::{
     after_closing, after_comma, after_keyword, expect_closing, expect_keyword, expect_opening,
     expect_string, expected, operator_at, tokens_left,
 };
 use crate::token::{Keyword, Placed};
+use like_patterns::{Case, Pattern, PatternError};
 use std::alloc::Global;
 use vortex_dtype::DType;
 use vortex_filter::{CompareOperator, Filter, comparison_of, member_of, range_of, with_position};
@@ -86,7 +90,7 @@ fn is_null(alloc: Global, column: usize, rest: &[Placed]) -> Result<(Filter, &[P
     Ok((Filter::not(alloc, Filter::IsNull { column })?, rest))
 }
 
-/// `in`, `between` or `like`, and what follows.
+/// `in`, `between`, `like` or `ilike`, and what follows.
 #[tactic(auto, unfolding(crate::specs::Reading::test_at, crate::specs::Mistakes::test_mistake))]
 fn test<'a>(
     alloc: Global,
@@ -104,8 +108,11 @@ fn test<'a>(
     if let Some(after) = after_keyword(rest, Keyword::Between) {
         return between(alloc, column, after);
     }
+    if let Some(after) = after_keyword(rest, Keyword::Ilike) {
+        return like(alloc, column, Case::Insensitive, after);
+    }
     let after = expect_keyword(rest, Keyword::Like, Expected::Operator)?;
-    like(alloc, column, after)
+    like(alloc, column, Case::Sensitive, after)
 }
 
 /// What follows `between`: two literals with `and` between them.
@@ -199,121 +206,124 @@ fn more_cells<'a>(
     Ok((literals, rest))
 }
 
-/// What follows `like`: the pattern of a prefix.
+/// What follows `like` or `ilike`: a pattern, and perhaps its escape.
 #[tactic(auto, unfolding(crate::specs::Reading::like_at, crate::specs::Mistakes::like_mistake))]
 fn like<'a>(
     alloc: Global,
     column: Found<'_>,
+    case: Case,
     rest: &'a [Placed],
 ) -> Result<(Filter, &'a [Placed]), TokenError>
     ensures read { Gives (λ x. (formula x.0, trees x.1.now)) result
-        (like_at column.entry.place (type_of column.entry.dtype.now) (trees rest.now))
+        (like_at column.entry.place (type_of column.entry.dtype.now) case (trees rest.now))
         (like_mistake (type_of column.entry.dtype.now) (trees rest.now)) }
     ensures valid { IfOk result (λ x. AreValid (literals_of x.0)) }
 {
     let left = tokens_left(rest);
-    let (pattern, rest) = expect_string(rest, Expected::Prefix)?;
-    let (escapes, rest) = escape_at(rest)?;
-    let bytes = pattern_prefix(alloc, pattern.as_bytes(), escapes, left)?;
-    Ok((text_prefix(alloc, column, bytes, left)?, rest))
+    let (text, rest) = expect_string(rest, Expected::Pattern)?;
+    let (escape, rest) = escape_at(rest)?;
+    let pattern = pattern_of(alloc, text, escape, left)?;
+    Ok((like_test(alloc, column, case, pattern, left)?, rest))
 }
 
-/// Whether `escape '\\'` comes next, and what follows.
+/// The escape that comes next, or none, and what follows.
 #[tactic(auto, unfolding(crate::specs::Reading::escape_at, crate::specs::Mistakes::escape_mistake))]
-fn escape_at(rest: &[Placed]) -> Result<(bool, &[Placed]), TokenError>
+fn escape_at(rest: &[Placed]) -> Result<(Option<char>, &[Placed]), TokenError>
     ensures { Gives (λ x. (x.0, trees x.1.now)) result (escape_at (trees rest.now))
         (escape_mistake (trees rest.now)) }
 {
     let Some(after) = after_keyword(rest, Keyword::Escape) else {
-        return Ok((false, rest));
+        return Ok((None, rest));
     };
-    let (escape, rest) = expect_string(after, Expected::Backslash)?;
-    if escape == "\\" {
-        Ok((true, rest))
-    } else {
-        Err(expected(after, Expected::Backslash))
+    let (text, rest) = expect_string(after, Expected::Escape)?;
+    match only_character(text) {
+        Some(escape) => Ok((Some(escape), rest)),
+        None => Err(expected(after, Expected::Escape)),
     }
 }
 
-/// The prefix that the pattern asks for.
-fn pattern_prefix(
+/// The character that a text is, if it is just one.
+fn only_character(text: &str) -> Option<char>
+    ensures { result ≡ only_one (chars text.now) }
+{
+    let mut characters = text.chars();
+    let first = characters.next()?;
+    match characters.next() {
+        Some(_) => None,
+        None => Some(first),
+    }
+}
+
+/// The pattern that a text spells, where so many tokens are left.
+fn pattern_of(
     alloc: Global,
-    pattern: &[u8],
-    escapes: bool,
+    text: &str,
+    escape: Option<char>,
     left: usize,
-) -> Result<Vec<u8>, TokenError>
-    ensures { Gives (λ v. v.items) result (pattern_prefix escapes pattern.now)
-        (TokenError.At left (Cause.Expected Expected.Prefix)) }
+) -> Result<Pattern, TokenError>
+    ensures { Gives (λ pattern. pattern) result (pattern_of escape (chars text.now))
+        (TokenError.At left (Cause.Expected Expected.Pattern)) }
 {
-    let mut prefix = Vec::new(alloc);
-    let mut rest = pattern;
-    while let Some((byte, after)) = prefix_byte(rest, escapes) {
-        prefix.push(byte)?;
-        rest = after;
-    }
-    if is_percent(rest) {
-        Ok(prefix)
-    } else {
-        Err(TokenError::At(left, Cause::Expected(Expected::Prefix)))
+    match Pattern::parse(alloc, text, escape) {
+        Ok(pattern) => Ok(pattern),
+        Err(PatternError::OutOfMemory) => Err(TokenError::NoMemory),
+        Err(PatternError::EscapeAtEnd { .. }) => {
+            Err(TokenError::At(left, Cause::Expected(Expected::Pattern)))
+        }
     }
 }
 
-/// The next byte of a prefix, and what follows it in the pattern. `None` if a wildcard or the
-/// end comes next.
-fn prefix_byte(pattern: &[u8], escapes: bool) -> Option<(u8, &[u8])>
-    ensures some { IfSome result (λ x. pattern_prefix escapes pattern.now
-        ≡ with_byte x.0 (pattern_prefix escapes x.1.now)) }
-    ensures shorter { IfSome result (λ x. length x.1.now < length pattern.now) }
-    ensures none { IfNone result (pattern_prefix escapes pattern.now ≡ ending pattern.now) }
+/// Whether the column is like the pattern, where so many tokens are left.
+#[tactic(auto, using(vortex_filter::proofs::Steps::shown, vortex_filter::proofs::LiteralSteps::literals, vortex_filter::proofs::LiteralSteps::valid))]
+fn like_test(
+    alloc: Global,
+    column: Found<'_>,
+    case: Case,
+    pattern: Pattern,
+    left: usize,
+) -> Result<Filter, TokenError>
+    ensures read { Gives formula result
+        (like_in column.entry.place (type_of column.entry.dtype.now) case pattern)
+        (TokenError.At left (other_type (type_of column.entry.dtype.now))) }
+    ensures valid { IfOk result (λ f. AreValid (literals_of f)) }
 {
-    let (first, behind) = pattern.split_first()?;
-    let (second, after) = behind.split_first()?;
-    if is_escape(*first, escapes) {
-        return Some((*second, after));
+    if !column.dtype.is_utf8() {
+        return Err(TokenError::At(left, other_type(column.dtype)));
     }
-    if is_wildcard(*first) {
-        return None;
+    if let Some(text) = prefix_asked(case, &pattern) {
+        return text_prefix(alloc, column, text, left);
     }
-    Some((*first, behind))
+    Ok(Filter::Like {
+        column: column.place,
+        pattern,
+        case,
+    })
 }
 
-/// The backslash, if it escapes.
-fn is_escape(byte: u8, escapes: bool) -> bool
-    ensures { result ≡ (escapes && (byte == 92)) }
+/// The prefix that a pattern asks for, if it asks for nothing else.
+fn prefix_asked(case: Case, pattern: &Pattern) -> Option<&str>
+    ensures { option_map (λ text. chars text.now) result ≡ prefix_asked case pattern.now }
 {
-    escapes && byte == b'\\'
+    match case {
+        Case::Sensitive => pattern.as_prefix(),
+        Case::Insensitive => None,
+    }
 }
 
-/// The pattern of all strings.
-fn is_percent(pattern: &[u8]) -> bool
-    ensures { result ≡ bytes_eq pattern.now (37 ∷ []) }
-{
-    pattern == b"%".as_slice()
-}
-
-/// `%` or `_`.
-fn is_wildcard(byte: u8) -> bool
-    ensures { result ≡ is_wildcard byte }
-{
-    byte == b'%' || byte == b'_'
-}
-
-/// Whether the column begins with these bytes of a string, where so many tokens are left.
-#[tactic(auto, unfolding(crate::specs::Reading::text_prefix), using(vortex_filter::proofs::LiteralSteps::valid))]
+/// Whether a column of strings begins with a text, where so many tokens are left.
+#[tactic(auto, using(vortex_filter::proofs::LiteralSteps::valid))]
 fn text_prefix(
     alloc: Global,
     column: Found<'_>,
-    bytes: Vec<u8>,
+    text: &str,
     left: usize,
 ) -> Result<Filter, TokenError>
-    ensures read { Gives (λ f. formula f) result
-        (text_prefix column.entry.place (type_of column.entry.dtype.now) bytes.items)
-        (TokenError.At left (text_cause (type_of column.entry.dtype.now) bytes.items)) }
+    requires { is_utf8_type (type_of column.dtype.now) ≡ true }
+    ensures read { MatchResult result
+        (λ f. formula f ≡ prefix_test column.entry.place (text_cell (encode_utf8_all (chars text.now))))
+        (λ e. e ≡ TokenError.NoMemory) }
     ensures valid { IfOk result (λ f. AreValid (literals_of f)) }
 {
-    let Ok(text) = str::from_utf8(bytes.as_slice()) else {
-        return Err(TokenError::At(left, Cause::Expected(Expected::Prefix)));
-    };
     let literal = string_in(alloc, column.dtype, text, left)?;
     prefix(column.place, literal, left)
 }

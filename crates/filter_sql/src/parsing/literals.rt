@@ -169,7 +169,7 @@ fn is_numeric(logical: LogicalType) -> bool
 }
 
 /// Why a literal of another kind is none of the type: whether the type has literals.
-fn other_type(dtype: &DType) -> Cause
+pub(crate) fn other_type(dtype: &DType) -> Cause
     ensures { result ≡ other_type (type_of dtype.now) }
 {
     match dtype {
@@ -195,11 +195,11 @@ fn extension_cause(dtype: &DType) -> Cause
 /// Whether the column begins with the literal, where so many tokens are left.
 pub(crate) fn prefix(column: usize, literal: Position, left: usize) -> Result<Filter, TokenError>
     ensures read { Gives formula result (prefix_of column (position_tree literal))
-        (TokenError.At left (Cause.Expected Expected.Prefix)) }
+        (TokenError.At left Cause.TypesDiffer) }
     ensures literals { IfOk result (λ f. literals_of f ≡ scalars_of literal) }
 {
     match prefix_of(column, literal) {
         Some(filter) => Ok(filter),
-        None => Err(TokenError::At(left, Cause::Expected(Expected::Prefix))),
+        None => Err(TokenError::At(left, Cause::TypesDiffer)),
     }
 }

@@ -8,7 +8,7 @@ ghost use Rattle.vortex_filter.specs.CheckSteps.{holds_strings};
 ghost use Rattle.vortex_filter.specs.Positions.{position_tree, scalars_of};
 ghost use Rattle.vortex_filter.specs.Formula.{formula};
 ghost use Rattle.filter_sql.specs.Tokens.{trees};
-ghost use Rattle.filter_sql.specs.Mistakes.{Gives, expected, predicate_mistake, prefix_call_mistake, prefix_cause};
+ghost use Rattle.filter_sql.specs.Mistakes.{Gives, expected, predicate_mistake, prefix_call_mistake};
 ghost use Rattle.filter_sql.specs.Reading.{constant_at, predicate_at, prefix_call_at, prefix_in};
 
 use crate::column::Column;
@@ -92,7 +92,7 @@ fn prefix_call<'a>(
 fn prefix_in(column: Found<'_>, literal: Position, left: usize) -> Result<Filter, TokenError>
     ensures read { Gives formula result
         (prefix_in (column.entry.place, type_of column.entry.dtype.now) (position_tree literal))
-        (TokenError.At left (prefix_cause (type_of column.entry.dtype.now))) }
+        (TokenError.At left Cause.TypesDiffer) }
     ensures literals { IfOk result (λ f. literals_of f ≡ scalars_of literal) }
 {
     if holds_strings(column.dtype) {

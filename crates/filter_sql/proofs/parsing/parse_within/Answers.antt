@@ -20,7 +20,7 @@ returns-clause-read c =
 
 pub returns-clause-printed : goal.returns-clause-printed
 returns-clause-printed c = λ names f readable deep is.
-    let laws : LiteralLaws = record { integers = c.integers_lie_at_themselves.ensures; types = c.shapes_say_types.ensures.says; words = c.shapes_say_words.ensures } in
+    let laws : LiteralLaws = record { integers = c.integers_lie_at_themselves.ensures; types = c.shapes_say_types.ensures.says; words = c.shapes_say_words.ensures; escaped = c.texts_come_back.ensures.escaped; plain = c.texts_come_back.ensures.plain } in
     result_reads_back laws c.args.depth (column_trees c.args.columns.now) names c.deref.result.now c.in_ok-lexed.lexed.ending is.words f is.are readable deep
     (rw c.deref.ensures.value (c.in_ok-lexed.ensures.canonical (tokens_of names is.words f) (text_tokens laws (column_trees c.args.columns.now) names is.words f c.args.depth is.are readable deep) is.text)) c.filter_in.result c.filter_in.ensures.given c.filter_in.ensures.refused
 
