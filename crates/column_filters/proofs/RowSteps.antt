@@ -10,7 +10,7 @@ use Rattle.vortex_filter.specs.Formula.{Formula, is_match}
 use Rattle.vortex_filter.specs.Named.{NamedColumnsDecide}
 use Rattle.vortex_filter.specs.Truths.{is_true}
 use Rattle.column_kernels.specs.Masks.{IsMask, matching}
-use Rattle.column_kernels.specs.Words.{HaveRowsTo, cells_of_row}
+use Rattle.column_kernels.specs.Words.{HaveRowsTo, HaveTexts, cells_of_row}
 use Rattle.column_filters.specs.Tables.{AreReadFrom, HaveRows, IsMaskError, IsTableError, cells_of_columns}
 use Rattle.column_filters.specs.declared.errors.MaskError.{MaskError}
 use Rattle.column_filters.specs.declared.errors.MaskError.TheVariants.{BufferTooSmall, OutOfMemory, TypesDiffer, Unreadable, WrongCount, WrongLength}
@@ -18,6 +18,10 @@ use Rattle.column_filters.specs.declared.errors.MaskError.TheVariants.{BufferToo
 -- columns of so many rows have them all
 pub rows-to : (columns : List Rows) (count : ℕ) → HaveRows columns count → HaveRowsTo count columns
 rows-to columns count all i d h = let one = all i d h in omega (arith, one.0)
+
+-- and strings that are UTF-8
+pub texts-of : (columns : List Rows) (count : ℕ) → HaveRows columns count → HaveTexts columns
+texts-of columns count all i d h = (all i d h).1
 
 -- the mask of what was read is that of the columns
 pub mask-along : NamedColumnsDecide → (f : Formula) (columns : List Column) (count : ℕ) (table given : List Rows) (mask : List ℕ) → given ≡ table → AreReadFrom f columns count (length columns) table → IsMask (matching f (cells_of_row given)) count mask

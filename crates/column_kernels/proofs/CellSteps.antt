@@ -102,11 +102,11 @@ by-bit test false a b truth p q is = is ∙ ap Some q
 pub at-place : (test : Bool → Bool) (bits : List ℕ) (i j : ℕ) (truth : Option Bool) → i ≡ j → truth ≡ Some (test (bit_of bits i)) → truth ≡ Some (test (bit_of bits j))
 at-place test bits i j truth place is = is ∙ ap (λ k. Some (test (bit_of bits k))) place
 
--- ---- operators
+-- ---- operators and widths
 
--- what holds with one operator holds with the one that it is
-pub with-operator : (says : CompareOperator → ℕ → Option Bool) (op o : CompareOperator) (count : ℕ) (words : List TruthWord) → op ≡ o → AreTruths (says o) count words → AreTruths (says op) count words
-with-operator says op o count words e told = λ row below. told row below ∙ ap (λ x. says x row) (sym e)
+-- what holds of one that is known holds of the one that it is
+pub with-known : {X : Type 0} (says : X → ℕ → Option Bool) (x known : X) (count : ℕ) (words : List TruthWord) → x ≡ known → AreTruths (says known) count words → AreTruths (says x) count words
+with-known says x known count words e told = λ row below. told row below ∙ ap (λ y. says y row) (sym e)
 
 -- ---- kinds
 

@@ -1,12 +1,12 @@
 -- Steps of what filters say of a block of rows.
-use Rattle.std.proofs.Common.{[], ◌∷◌, ◌≡◌, ◌∙◌, ◌+◌, ◌*◌, ◌<◌, ◌≤◌, ◌⊎◌, Bool, List, None, Option, Some, ap, ap₂, arith, false, fold, get_or, inl, inr, length, map, option_map, refl, replicate, slice_get, slice_index_or, subst, sym, take, true, ℕ}
+use Rattle.std.proofs.Common.{[], ◌∷◌, ◌≡◌, ◌∙◌, ◌+◌, ◌<◌, ◌≤◌, ◌⊎◌, List, None, Some, ap, ap₂, arith, false, fold, get_or, inl, inr, length, map, option_map, refl, replicate, slice_get, slice_index_or, subst, sym, take, true, ℕ}
 use Rattle.std.proofs.lemmas.Bool.{cases_lt}
 use Rattle.std.proofs.lemmas.List.{get_or-replicate, get_or_past, length-replicate, map-append, take_all, take_more}
 use Rattle.std.proofs.lemmas.List.Sums.{fold-append}
 use Rattle.std.proofs.lemmas.Option.{slice_get-map}
 use Rattle.arrow_columns.specs.declared.tested_rows.Rows.{Rows}
 use Rattle.arrow_columns.specs.declared.tested_rows.Rows.TheVariants.{Nulls}
-use Rattle.vortex_dtype.specs.TypeTree.{TypeTree, null_type}
+use Rattle.vortex_dtype.specs.TypeTree.{null_type}
 use Rattle.vortex_value.specs.Values.Content.{Content, null}
 use Rattle.vortex_value.specs.declared.scalars.Scalar.{Scalar}
 use Rattle.vortex_cells.specs.Cells.{Cell, cell_of, cell_or_null}

@@ -1,11 +1,14 @@
 -- What tests say of the contents of a column's rows, by its cells.
-use Rattle.std.proofs.Common.{◌≡◌, ◌↔◌, ◌∙◌, ◌||◌, ◌+◌, ◌<◌, ◌≤◌, Bool, IsTrue, List, None, Option, Ordering, Some, ap, arith, false, if◌then◌else◌, length, map, nat_eq, nat_le, not, refl, replicate, slice_index_or, subst, sym, true, ℕ, ℤ}
+use Rattle.std.proofs.Common.{◌≡◌, ◌↔◌, ◌∙◌, ◌&&◌, ◌||◌, ◌+◌, ◌<◌, ◌≤◌, All, Bool, IfSome, IsTrue, IsUtf8, List, None, Option, Ordering, Some, ap, arith, false, if◌then◌else◌, length, map, nat_eq, nat_le, not, refl, replicate, slice_get, slice_index_or, subst, sym, true, ℕ, ℤ}
 use Rattle.std.proofs.lemmas.Bool.Decides.{same_from_decides}
 use Rattle.std.proofs.lemmas.List.{get_or-map, get_or-replicate, length-map, length-replicate}
 use Rattle.std.proofs.lemmas.List.FromFn.{get_or-map-range_with_len, length-map-range_with_len}
+use Rattle.std.proofs.lemmas.Option.{get_or_from_slice_get, slice_get_within}
+use Rattle.std.proofs.lemmas.Str.{is_utf8-from_IsUtf8}
 use Rattle.std.specs.Cmp.Lexicographic.{slice_cmp}
 use Rattle.std.specs.List.{starts_with}
 use Rattle.std.specs.Ordering.{int_cmp, nat_cmp}
+use Rattle.std.specs.Str.{chars}
 use Rattle.arrow_columns.specs.Bitmaps.{is_valid}
 use Rattle.arrow_columns.specs.Cells.{cell_at, cells_from}
 use Rattle.arrow_columns.specs.declared.columns.Column.{Column}
@@ -15,11 +18,16 @@ use Rattle.arrow_columns.specs.declared.kinds.ItemKind.{ItemKind}
 use Rattle.arrow_columns.specs.declared.tested_rows.Rows.{Rows}
 use Rattle.arrow_columns.specs.declared.tested_rows.Rows.TheVariants.{Nulls}
 use Rattle.column_cells.specs.Contents.{content_or_null, contents_of_rows, stored_content}
+use Rattle.column_cells.specs.Types.{type_of_format, type_of_rows}
+use Rattle.like_patterns.specs.Patterns.{Part, is_like}
+use Rattle.like_patterns.specs.declared.case.Case.{Case}
 use Rattle.logical_types.specs.Storing.{decimal_bytes}
 use Rattle.vortex_cells.specs.Cells.{Cell, is_null_content}
+use Rattle.vortex_dtype.specs.Parts.{is_utf8_type}
 use Rattle.vortex_dtype.specs.TypeTree.{Same, TypeTree}
 use Rattle.vortex_filter.specs.Formula.{compare_truth, order_truth}
 use Rattle.vortex_filter.specs.Operators.{holds}
+use Rattle.vortex_filter.specs.PatternTests.{are_like, match_truth, pattern_truth}
 use Rattle.vortex_filter.specs.Prefixes.{begins, begins_truth, prefix_truth}
 use Rattle.vortex_filter.specs.Truths.{truth_of}
 use Rattle.vortex_filter.specs.declared.operator.CompareOperator.{CompareOperator}
@@ -29,7 +37,7 @@ use Rattle.vortex_value.specs.Equality.{same_type}
 use Rattle.vortex_value.specs.Lemmas.EqualityLaws.{same_type-Decides}
 use Rattle.vortex_value.specs.Order.{order, truth_cmp}
 use Rattle.vortex_value.specs.Values.Content.{Content, null, sequence, string, tagged, text, truth, typed, whole}
-use Rattle.column_kernels.specs.Rows.{bool_in, bytes_in, content_compared, content_of_row, number_in, option_of, stores_bytes, text_in}
+use Rattle.column_kernels.specs.Rows.{bool_in, bytes_in, cell_of_row, content_compared, content_of_row, number_in, option_of, stores_bytes, text_in}
 use Rattle.column_kernels.specs.Truths.{compared, tested}
 
 -- the content of a row is that of its cell
@@ -39,7 +47,7 @@ content-at of_value validity value offset count row below =
     get_or-map (content_or_null of_value) (cells_from validity value offset count) row None null (omega (arith, below, length-map-range_with_len (cell_at validity value) offset count))
     ∙ ap (content_or_null of_value) (get_or-map-range_with_len (cell_at validity value) offset count row (offset + row) None below refl)
 
-option-of-bool : (b : Bool) → option_of (truth_of b) ≡ Some b
+pub option-of-bool : (b : Bool) → option_of (truth_of b) ≡ Some b
 option-of-bool true = refl
 option-of-bool false = refl
 
@@ -266,6 +274,37 @@ boolean-begins b (typed t c) = refl
 
 pub boolean-unprefixed : (d : Content) → (cell : Option Bool) → None ≡ option_of (begins_truth (begins (content_or_null truth cell) d))
 boolean-unprefixed d = none-begins truth d (λ b. boolean-begins b d) (null-begins d)
+
+-- ---- patterns
+
+pub text-matches : (case : Case) (parts : List Part) (cell : Option (List ℕ)) → tested (are_like case parts) cell ≡ option_of (match_truth case parts (content_or_null text cell))
+text-matches case parts None = refl
+text-matches case parts (Some bytes) = sym (option-of-bool (are_like case parts bytes))
+
+-- what is said of the cells of a column that is known is said of the column
+pub matches-shown : (case : Case) (parts : List Part) (rows known : Rows) (i : ℕ) (told : Option Bool) → rows ≡ known → told ≡ option_of (pattern_truth case parts (cell_of_row known i)) → told ≡ option_of (pattern_truth case parts (cell_of_row rows i))
+matches-shown case parts rows known i told e is = is ∙ ap (λ r. option_of (pattern_truth case parts (cell_of_row r i))) (sym e)
+
+-- of a column that has no strings
+pub no-strings : (case : Case) (parts : List Part) (rows known : Rows) (i : ℕ) (told : Option Bool) → rows ≡ known → is_utf8_type (type_of_rows known) ≡ false → told ≡ None → told ≡ option_of (pattern_truth case parts (cell_of_row rows i))
+no-strings case parts rows known i told e other is =
+    let no : false ≡ is_utf8_type (type_of_rows rows) = sym (ap (λ r. is_utf8_type (type_of_rows r)) e ∙ other) in
+    is ∙ ap (λ b. option_of (if b then match_truth case parts (content_of_row rows i) else Unknown)) no
+
+pub logical-no-strings : (format : Format) → is_utf8_type (type_of_format format) ≡ false
+logical-no-strings formats.Float32 = refl
+logical-no-strings formats.Float64 = refl
+logical-no-strings formats.Date32 = refl
+logical-no-strings (formats.Time unit) = refl
+logical-no-strings (formats.Timestamp unit is_zoned) = refl
+logical-no-strings (formats.Decimal width precision scale) = refl
+
+-- a string of a column whose strings are UTF-8
+pub text-of : (cells : List (Option (List ℕ))) (row : ℕ) (bytes : List ℕ) → All (λ cell. IfSome cell (λ bs. IsUtf8 bs)) cells → slice_get cells row ≡ Some (Some bytes) → IsUtf8 bytes
+text-of cells row bytes h e = subst (λ cell. IfSome cell (λ bs. IsUtf8 bs)) (get_or_from_slice_get cells row (Some bytes) (Some bytes) e) (h row (Some bytes) (slice_get_within cells row (Some bytes) e))
+
+pub utf8-like : (case : Case) (parts : List Part) (bytes : List ℕ) → IsUtf8 bytes → is_like case parts (chars bytes) ≡ are_like case parts bytes
+utf8-like case parts bytes h = ap (λ b. b && is_like case parts (chars bytes)) (sym (is_utf8-from_IsUtf8 bytes h))
 
 -- ---- columns
 

@@ -3,6 +3,7 @@ use Rattle.std.specs.Prelude.{◌≡◌, ℕ, [], ◌∷◌, None, Some, false, 
 use Rattle.std.specs.Ordering.{int_cmp}
 use Rattle.vortex_filter.specs.declared.operator.CompareOperator.TheVariants.{Gte, NotEq}
 use Rattle.vortex_filter.specs.declared.truth.Truth.TheVariants.{False, Unknown}
+use Rattle.column_kernels.specs.Needles.{is_alike}
 use Rattle.column_kernels.specs.Rows.{option_of}
 use Rattle.column_kernels.specs.Truths.{compared, tested}
 
@@ -18,3 +19,7 @@ truths = refl
 
 nulls : tested (λ (n : ℕ). true) None ∷ tested (λ (n : ℕ). true) (Some 3) ∷ [] ≡ None ∷ Some true ∷ []
 nulls = refl
+
+-- a number and a length that are a needle's, and a length that is not
+alike : is_alike 5 1 5 (5 ∷ []) ∷ is_alike 5 2 5 (5 ∷ []) ∷ [] ≡ true ∷ false ∷ []
+alike = refl

@@ -4,7 +4,7 @@ use Rattle.std.specs.List.{All}
 use Rattle.arrow_columns.specs.declared.formats.Format.{Format}
 use Rattle.arrow_columns.specs.declared.formats.Format.TheVariants as formats
 use Rattle.arrow_columns.specs.declared.tested_rows.Rows.{Rows}
-use Rattle.column_cells.specs.Contents.{contents_of_rows}
+use Rattle.column_cells.specs.Contents.{HasTexts, contents_of_rows}
 use Rattle.column_cells.specs.Types.{type_of_rows}
 use Rattle.vortex_cells.specs.Cells.{Cell, is_null_content}
 use Rattle.vortex_filter.specs.Formula.{order_truth}
@@ -37,6 +37,10 @@ cells_of_row columns row = map (λ rows. cell_of_row rows row) columns
 -- each column has the rows before this one
 abbrev pub HaveRowsTo : ℕ → List Rows → Type 0
 HaveRowsTo end columns = All (λ rows. end ≤ length (contents_of_rows rows)) columns
+
+-- each column has strings that are UTF-8, and values of its type
+abbrev pub HaveTexts : List Rows → Type 0
+HaveTexts columns = All HasTexts columns
 
 -- ---- contents of one type
 

@@ -1,14 +1,16 @@
 //! What a filter says of a block of rows.
 
 ghost use Rattle.std.specs.Prelude.{◌≡◌, ◌+◌, ◌*◌, ◌^◌, ◌<◌, ◌≤◌, ℕ, length, map};
-ghost use Rattle.column_kernels.specs.FilterWords.{AreTruths, HaveRowsTo, cell_at, cell_of, cell_of_row};
-ghost use Rattle.column_kernels.specs.FilterWords.{cells_of_row, compare_truth, contents_of_rows, formula};
+ghost use Rattle.column_kernels.specs.FilterWords.{AreTruths, HasTexts, HaveRowsTo, HaveTexts, cell_at, cell_of};
+ghost use Rattle.column_kernels.specs.FilterWords.{cell_of_row, cells_of_row, compare_truth, contents_of_rows, formula};
 ghost use Rattle.column_kernels.specs.FilterWords.{member_truth, option_of, range_truth, truth, truth_and};
 ghost use Rattle.column_kernels.specs.FilterWords.{truth_at, truth_or};
 
 use crate::beginning::test_prefix_of_rows;
 use crate::comparing::compare_rows;
+use crate::members::write_listed;
 use crate::nulls::test_nulls;
+use crate::patterns::match_rows;
 use arrow_columns::Rows;
 use truth_bitmaps::{
     TruthWord, and_words, are_all_false, are_all_true, fill_words, not_words, or_words,
@@ -38,6 +40,7 @@ pub(crate) fn write_truths(
     words: &mut [TruthWord],
 )
     requires rows { HaveRowsTo (from + count) columns.now }
+    requires texts { HaveTexts columns.now }
     requires end { from + count < 2 ^ 64 }
     requires words { count ≤ 64 * length words.old }
     requires block { length words.old ≤ BLOCK_WORDS }
@@ -75,6 +78,14 @@ pub(crate) fn write_truths(
             let rows = rows_at(columns, *column, from + count);
             test_prefix_of_rows(&rows, from, count, prefix, words);
         }
+        Filter::Like {
+            column,
+            pattern,
+            case,
+        } => {
+            let rows = rows_at(columns, *column, from + count);
+            match_rows(&rows, from, count, pattern, *case, words);
+        }
         Filter::And(left, right) => {
             write_truths(left, columns, from, count, words);
             and_truths(right, columns, from, count, words);
@@ -95,6 +106,7 @@ pub(crate) fn write_truths(
 #[tactic(auto, using(vortex_filter::proofs::Steps::shown))]
 fn and_truths(filter: &Filter, columns: &[Rows], from: usize, count: usize, words: &mut [TruthWord])
     requires rows { HaveRowsTo (from + count) columns.now }
+    requires texts { HaveTexts columns.now }
     requires end { from + count < 2 ^ 64 }
     requires words { count ≤ 64 * length words.old }
     requires block { length words.old ≤ BLOCK_WORDS }
@@ -116,6 +128,7 @@ fn and_truths(filter: &Filter, columns: &[Rows], from: usize, count: usize, word
 #[tactic(auto, using(vortex_filter::proofs::Steps::shown))]
 fn or_truths(filter: &Filter, columns: &[Rows], from: usize, count: usize, words: &mut [TruthWord])
     requires rows { HaveRowsTo (from + count) columns.now }
+    requires texts { HaveTexts columns.now }
     requires end { from + count < 2 ^ 64 }
     requires words { count ≤ 64 * length words.old }
     requires block { length words.old ≤ BLOCK_WORDS }
@@ -134,9 +147,11 @@ fn or_truths(filter: &Filter, columns: &[Rows], from: usize, count: usize, words
 
 /// The column at a place. If there is none, so many nulls.
 fn rows_at<'a>(columns: &[Rows<'a>], column: usize, count: usize) -> Rows<'a>
-    requires { HaveRowsTo count columns.now }
+    requires rows { HaveRowsTo count columns.now }
+    requires texts { HaveTexts columns.now }
     ensures cells { (row : ℕ) → cell_of_row result row ≡ cell_at (cells_of_row columns.now row) column }
     ensures rows { count ≤ length (contents_of_rows result) }
+    ensures texts { HasTexts result }
 {
     match columns.get(column) {
         Some(rows) => *rows,
@@ -155,7 +170,8 @@ fn known(truth: Truth) -> Option<bool>
     }
 }
 
-/// Writes whether each row is equal to one of the literals. The others are not asked once each is.
+/// Writes whether each row is equal to one of the literals: of all at once, if that can be, or else of one after
+/// the other. The others are not asked once each row is equal.
 fn write_members(
     rows: &Rows,
     from: usize,
@@ -170,6 +186,9 @@ fn write_members(
         (cell_of_row rows.now (from + row)) (map cell_of literals.now))) count words.new }
     ensures size { length words.new ≡ length words.old }
 {
+    if write_listed(rows, from, count, literals, words) {
+        return;
+    }
     fill_words(words, Some(false));
     for literal in literals {
         or_equal(rows, from, count, literal, words);

@@ -9,12 +9,18 @@ mod bytes;
 mod comparing;
 mod evaluation;
 mod items;
+mod listed;
 mod literals;
 mod masks;
+mod members;
+mod needles;
 mod nulls;
+mod patterns;
+mod spans;
 mod validity;
 
 pub use beginning::test_prefix_of_rows;
 pub use comparing::compare_rows;
 pub use masks::write_mask;
 pub use nulls::test_nulls;
+pub use patterns::match_rows;

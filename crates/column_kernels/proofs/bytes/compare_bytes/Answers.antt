@@ -1,16 +1,24 @@
-use Rattle.std.proofs.Common.{◌+◌, Bool, List, ℕ}
+use Rattle.std.proofs.Common.{◌+◌, List, Option, Bool, sym, ℕ}
 use Rattle.std.specs.Cmp.Lexicographic.{slice_cmp}
 use Rattle.std.specs.Ordering.{nat_cmp}
-use Rattle.arrow_columns.specs.Columns.{offset_in}
-use Rattle.arrow_columns.specs.Offsets.{bytes_between}
-use Rattle.truth_bitmaps.specs.Truths.{truth_at}
-use Rattle.vortex_filter.specs.Operators.{holds}
-use Rattle.column_kernels.proofs.CellSteps.{value-marked}
+use Rattle.vortex_filter.specs.declared.operator.CompareOperator.{CompareOperator}
+use Rattle.vortex_filter.specs.declared.operator.CompareOperator.TheVariants.{Eq, NotEq}
+use Rattle.column_kernels.specs.Truths.{byte_cell, compared}
+use Rattle.column_kernels.proofs.CellSteps.{with-known}
 use Rattle.column_kernels.proofs.bytes.compare_bytes.Goals as goal
 
-pub returns-clause-truth : goal.returns-clause-truth
-returns-clause-truth c = λ row below.
-    let column = c.args.rows.now.column in
-    let test : List ℕ → Bool = λ bytes. holds c.args.operator (slice_cmp nat_cmp bytes c.args.literal.now) in
-    let value : ℕ → List ℕ = bytes_between column.values.now (offset_in c.args.rows.now.width column) in
-    value-marked test column.validity.now value (column.offset + (c.args.from + row)) (truth_at c.write_bytes.new.words row) _ (c.mark_null_rows.ensures.truth row below) (c.write_bytes.ensures.truth row below)
+-- by the bytes of the needle, and then by the operator
+
+pub returns-in-Eq-clause-truth : goal.returns-in-Eq-clause-truth
+returns-in-Eq-clause-truth c =
+    let rows = c.args.rows.now in
+    let literal = c.args.literal.now in
+    let says : CompareOperator → List ℕ → ℕ → Option Bool = λ op bytes row. compared op (λ (value : List ℕ). slice_cmp nat_cmp value bytes) (byte_cell rows.width rows.column (c.args.from + row)) in
+    with-known (λ op. says op literal) c.args.operator Eq c.args.count _ c.in-Eq.is (with-known (says Eq) literal _ c.args.count _ (sym c.of-needle.ensures) c.test_spans.ensures.truth)
+
+pub returns-in-NotEq-clause-truth : goal.returns-in-NotEq-clause-truth
+returns-in-NotEq-clause-truth c =
+    let rows = c.args.rows.now in
+    let literal = c.args.literal.now in
+    let says : CompareOperator → List ℕ → ℕ → Option Bool = λ op bytes row. compared op (λ (value : List ℕ). slice_cmp nat_cmp value bytes) (byte_cell rows.width rows.column (c.args.from + row)) in
+    with-known (λ op. says op literal) c.args.operator NotEq c.args.count _ c.in-NotEq.is (with-known (says NotEq) literal _ c.args.count _ (sym c.of-needle-in-NotEq.ensures) c.test_spans-in-NotEq.ensures.truth)

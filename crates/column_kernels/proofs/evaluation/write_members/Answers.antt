@@ -1,7 +1,12 @@
--- One literal more, or none, once each row is equal to one.
+-- All literals at once, or one more, or none, once each row is equal to one.
 use Rattle.std.proofs.Common.{◌*◌, arith, length, refl}
-use Rattle.column_kernels.proofs.EvaluationSteps.{members-decided, members-more}
+use Rattle.arrow_columns.proofs.SpanSteps.{on_true}
+use Rattle.column_kernels.proofs.EvaluationSteps.{AreMembers, members-decided, members-more}
 use Rattle.column_kernels.proofs.evaluation.write_members.Goals as goal
+
+pub returns-then-write_listed-clause-truth : goal.returns-then-write_listed-clause-truth
+returns-then-write_listed-clause-truth c =
+    on_true c.write_listed.result (AreMembers c.args.rows.now c.args.from c.args.count c.args.literals.now c.write_listed.new.words) c.write_listed.ensures.truth c.if-write_listed.true
 
 pub loop-literal-preserved : goal.loop-literal-preserved
 loop-literal-preserved c =

@@ -1,5 +1,5 @@
 -- One block more.
-use Rattle.std.proofs.Common.{◌≡◌, ◌+◌, ◌-◌, ◌*◌, ◌/◌, ◌≤◌, ◌<◌, arith, length, min, subst, sym, ℕ}
+use Rattle.std.proofs.Common.{◌≡◌, ◌+◌, ◌-◌, ◌*◌, ◌/◌, ◌≤◌, ◌<◌, arith, length, min, subst, ℕ}
 use Rattle.vortex_filter.specs.Formula.{formula}
 use Rattle.column_kernels.specs.FilterWords.{IsMask, bitmap_length, cells_of_row, matching}
 use Rattle.column_kernels.proofs.MaskSteps.{mask-more, rest-more}
