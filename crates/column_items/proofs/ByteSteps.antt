@@ -1,6 +1,6 @@
 -- Numbers from their bytes, the low one first.
 use Rattle.std.proofs.Common.{◌≡◌, ◌∙◌, ◌+◌, ◌*◌, ◌/◌, ◌%◌, ◌^◌, ◌<◌, ℕ, zero, suc, ℤ, List, SFits, refl, ap, arith}
-use Rattle.std.specs.Int.{byte_at, byte_worth, cast_signed, cast_unsigned, from_le_bytes, sum_through, to_le_bytes, w128, w32, w64}
+use Rattle.std.specs.Int.{Width, byte_at, byte_worth, cast_signed, cast_unsigned, from_le_bytes, sum_through, to_le_bytes, w128, w32, w64}
 use native.Mathlib.Nat.{mul_comm, pow-suc}
 use Rattle.std.proofs.Math.Arith.{mod-mul}
 use Rattle.std.proofs.Math.Facts.{Fits-of_z}
@@ -39,14 +39,14 @@ sixteen n l = through n 15 ∙ mod-eq_of_lt l
 
 -- of what a call is given, the number as it is handed over
 
-pub back_4 : (z : ℤ) (bytes : List ℕ) → SFits w32 z → bytes ≡ to_le_bytes w32 (cast_unsigned w32 (cast_signed w32 (cast_unsigned w32 z))) → cast_signed w32 (from_le_bytes w32 bytes) ≡ z
-back_4 z bytes h e =
-    ap (λ bs. cast_signed w32 (from_le_bytes w32 bs)) (e ∙ ap (λ y. to_le_bytes w32 (cast_unsigned w32 y)) (to_z-of_z w32 z h)) ∙ ap (cast_signed w32) (from_le_bytes-to_le_bytes_4 (cast_unsigned w32 z) (Fits-of_z h).fits) ∙ to_z-of_z w32 z h
+pub same_bytes : (w : Width) (z : ℤ) (bytes : List ℕ) → SFits w z → bytes ≡ to_le_bytes w (cast_unsigned w (cast_signed w (cast_unsigned w z))) → bytes ≡ to_le_bytes w (cast_unsigned w z)
+same_bytes w z bytes h e = e ∙ ap (λ y. to_le_bytes w (cast_unsigned w y)) (to_z-of_z w z h)
 
-pub back_8 : (z : ℤ) (bytes : List ℕ) → SFits w64 z → bytes ≡ to_le_bytes w64 (cast_unsigned w64 (cast_signed w64 (cast_unsigned w64 z))) → cast_signed w64 (from_le_bytes w64 bytes) ≡ z
-back_8 z bytes h e =
-    ap (λ bs. cast_signed w64 (from_le_bytes w64 bs)) (e ∙ ap (λ y. to_le_bytes w64 (cast_unsigned w64 y)) (to_z-of_z w64 z h)) ∙ ap (cast_signed w64) (from_le_bytes-to_le_bytes_8 (cast_unsigned w64 z) (Fits-of_z h).fits) ∙ to_z-of_z w64 z h
+pub back_4 : (z : ℤ) (bytes : List ℕ) → SFits w32 z → bytes ≡ to_le_bytes w32 (cast_unsigned w32 z) → cast_signed w32 (from_le_bytes w32 bytes) ≡ z
+back_4 z bytes h e = ap (λ bs. cast_signed w32 (from_le_bytes w32 bs)) e ∙ ap (cast_signed w32) (from_le_bytes-to_le_bytes_4 (cast_unsigned w32 z) (Fits-of_z h).fits) ∙ to_z-of_z w32 z h
 
-pub back_16 : (z : ℤ) (bytes : List ℕ) → SFits w128 z → bytes ≡ to_le_bytes w128 (cast_unsigned w128 (cast_signed w128 (cast_unsigned w128 z))) → cast_signed w128 (from_le_bytes w128 bytes) ≡ z
-back_16 z bytes h e =
-    ap (λ bs. cast_signed w128 (from_le_bytes w128 bs)) (e ∙ ap (λ y. to_le_bytes w128 (cast_unsigned w128 y)) (to_z-of_z w128 z h)) ∙ ap (cast_signed w128) (sixteen (cast_unsigned w128 z) (Fits-of_z h).fits) ∙ to_z-of_z w128 z h
+pub back_8 : (z : ℤ) (bytes : List ℕ) → SFits w64 z → bytes ≡ to_le_bytes w64 (cast_unsigned w64 z) → cast_signed w64 (from_le_bytes w64 bytes) ≡ z
+back_8 z bytes h e = ap (λ bs. cast_signed w64 (from_le_bytes w64 bs)) e ∙ ap (cast_signed w64) (from_le_bytes-to_le_bytes_8 (cast_unsigned w64 z) (Fits-of_z h).fits) ∙ to_z-of_z w64 z h
+
+pub back_16 : (z : ℤ) (bytes : List ℕ) → SFits w128 z → bytes ≡ to_le_bytes w128 (cast_unsigned w128 z) → cast_signed w128 (from_le_bytes w128 bytes) ≡ z
+back_16 z bytes h e = ap (λ bs. cast_signed w128 (from_le_bytes w128 bs)) e ∙ ap (cast_signed w128) (sixteen (cast_unsigned w128 z) (Fits-of_z h).fits) ∙ to_z-of_z w128 z h

@@ -1,5 +1,5 @@
 -- The number that a raw value stores.
-use Rattle.std.proofs.Common.{◌≡◌, ◌∙◌, ◌≤◌, ◌^◌, ◌<◌, inl, inr, ℕ, ℤ, Bool, true, false, FitsSigned, List, Some, ap, arith, if◌then◌else◌, length, refl, rules, subst, sym}
+use Rattle.std.proofs.Common.{◌≡◌, ◌∙◌, ◌≤◌, ◌^◌, inl, inr, ℕ, ℤ, Bool, true, false, FitsSigned, List, Some, ap, arith, if◌then◌else◌, length, refl, rules, subst, sym}
 use mir.Syntax.{w128}
 use Rattle.std.proofs.Math.Nat.{pow-le-pow_right}
 use Rattle.std.proofs.lemmas.Bool.{false≢true}

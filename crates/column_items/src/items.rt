@@ -3,9 +3,10 @@
 
 ghost use Rattle.std.specs.Prelude.{◌≡◌, length};
 ghost use Rattle.std.specs.Float.{binary32, binary64};
-ghost use Rattle.std.specs.Int.{cast_signed, from_le_bytes, w128, w32, w64};
-ghost use Rattle.column_items.specs.Words.{FitsItem, IsStorage, IsValueOf, bytes_of_stored, items_of, number_of};
-ghost use Rattle.column_items.specs.Words.{storage_of_bits, width_of_item};
+ghost use Rattle.std.specs.Int.{cast_signed, cast_unsigned, from_le_bytes, to_le_bytes, w128, w32, w64};
+ghost use Rattle.column_items.specs.Words.{FitsItem, IsStorage, IsValueOf, bits_of_storage};
+ghost use Rattle.column_items.specs.Words.{bytes_of_number, bytes_of_stored, items_of, number_of, storage_of_bits};
+ghost use Rattle.column_items.specs.Words.{width_of_item};
 
 use arrow_columns::{DecimalWidth, Format};
 use float_storage::laws::{f32_storage_comes_back, f64_storage_comes_back};
@@ -36,53 +37,53 @@ impl StoredItem {
     }
 }
 
-/// The item of a buffer of the format that stands for a number. Of floats that of 0 has no sign, and
-/// there is one of NaN.
+/// The item of a buffer of the format that stands for a number, the same one each time. Of floats that
+/// of 0 has no sign, and that of NaN has the bits next above those of infinity.
 pub fn item_of_number(format: Format, number: i128) -> StoredItem
     requires value { IsValueOf format number }
     requires fits { FitsItem (items_of format) number }
     ensures width { length (bytes_of_stored result) ≡ width_of_item (items_of format) }
     ensures number { number_of (items_of format) (bytes_of_stored result) ≡ number }
+    ensures item { bytes_of_stored result ≡ bytes_of_number (items_of format) number }
 {
     match format {
         Format::Float32 => StoredItem::Four(f32_bytes(number as i32)),
         Format::Float64 => StoredItem::Eight(f64_bytes(number as i64)),
-        Format::Date32
-        | Format::Time(TimeUnit::Seconds | TimeUnit::Milliseconds)
-        | Format::Decimal {
-            width: DecimalWidth::Bits32,
-            ..
-        } => StoredItem::Four(i32_bytes(number as i32)),
-        Format::Time(TimeUnit::Microseconds | TimeUnit::Nanoseconds)
-        | Format::Timestamp { .. }
-        | Format::Decimal {
-            width: DecimalWidth::Bits64,
-            ..
-        } => StoredItem::Eight(i64_bytes(number as i64)),
-        Format::Decimal {
-            width: DecimalWidth::Bits128,
-            ..
-        } => StoredItem::Sixteen(i128_bytes(number)),
+        Format::Date32 | Format::Time(TimeUnit::Seconds | TimeUnit::Milliseconds) => {
+            StoredItem::Four(i32_bytes(number as i32))
+        }
+        Format::Time(TimeUnit::Microseconds | TimeUnit::Nanoseconds) => {
+            StoredItem::Eight(i64_bytes(number as i64))
+        }
+        Format::Timestamp { .. } => StoredItem::Eight(i64_bytes(number as i64)),
+        Format::Decimal { width, .. } => match width {
+            DecimalWidth::Bits32 => StoredItem::Four(i32_bytes(number as i32)),
+            DecimalWidth::Bits64 => StoredItem::Eight(i64_bytes(number as i64)),
+            DecimalWidth::Bits128 => StoredItem::Sixteen(i128_bytes(number)),
+        },
     }
 }
 
 /// The bytes of an integer of 32 bits.
 fn i32_bytes(number: i32) -> [u8; 4]
-    ensures { cast_signed w32 (from_le_bytes w32 result) ≡ number }
+    ensures number { cast_signed w32 (from_le_bytes w32 result) ≡ number }
+    ensures bytes { result ≡ to_le_bytes w32 (cast_unsigned w32 number) }
 {
     number.to_le_bytes()
 }
 
 /// The bytes of an integer of 64 bits.
 fn i64_bytes(number: i64) -> [u8; 8]
-    ensures { cast_signed w64 (from_le_bytes w64 result) ≡ number }
+    ensures number { cast_signed w64 (from_le_bytes w64 result) ≡ number }
+    ensures bytes { result ≡ to_le_bytes w64 (cast_unsigned w64 number) }
 {
     number.to_le_bytes()
 }
 
 /// The bytes of an integer of 128 bits.
 fn i128_bytes(number: i128) -> [u8; 16]
-    ensures { cast_signed w128 (from_le_bytes w128 result) ≡ number }
+    ensures number { cast_signed w128 (from_le_bytes w128 result) ≡ number }
+    ensures bytes { result ≡ to_le_bytes w128 (cast_unsigned w128 number) }
 {
     number.to_le_bytes()
 }
@@ -90,7 +91,8 @@ fn i128_bytes(number: i128) -> [u8; 16]
 /// The bytes of a float of 32 bits, by its storage.
 fn f32_bytes(storage: i32) -> [u8; 4]
     requires { IsStorage binary32 storage }
-    ensures { storage_of_bits binary32 (from_le_bytes w32 result) ≡ storage }
+    ensures number { storage_of_bits binary32 (from_le_bytes w32 result) ≡ storage }
+    ensures bytes { result ≡ to_le_bytes w32 (bits_of_storage binary32 storage) }
 {
     f32_storage_comes_back(storage);
     f32_bits_of_storage(storage).to_le_bytes()
@@ -99,7 +101,8 @@ fn f32_bytes(storage: i32) -> [u8; 4]
 /// The bytes of a float of 64 bits, by its storage.
 fn f64_bytes(storage: i64) -> [u8; 8]
     requires { IsStorage binary64 storage }
-    ensures { storage_of_bits binary64 (from_le_bytes w64 result) ≡ storage }
+    ensures number { storage_of_bits binary64 (from_le_bytes w64 result) ≡ storage }
+    ensures bytes { result ≡ to_le_bytes w64 (bits_of_storage binary64 storage) }
 {
     f64_storage_comes_back(storage);
     f64_bits_of_storage(storage).to_le_bytes()

@@ -164,7 +164,7 @@ pub value-column : (format : Format) (cells : List Content) (validity values off
     → IsColumnOf (Logical format) cells validity values offsets
 value-column format cells validity values offsets buffer bits all = record {
   contents = contents-are (stored_content format) (λ i. number_of (items_of format) (item_at (width_of_item (items_of format)) values i)) validity cells buffer bits
-      (λ i l present. number-present format (get_or cells i null) _ present (all i l));
+      (λ i l present. number-present format (get_or cells i null) _ present (all i l).number);
   present = bits;
   written = all;
 }

@@ -14,11 +14,13 @@ use Rattle.vortex_value.specs.TypesWithin.{HasNoVariant, HaveNoVariant}
 use Rattle.vortex_value.specs.Size.{capped}
 use Rattle.vortex_value.specs.Validity.{Valid}
 use Rattle.vortex_value.specs.Values.Content.{content}
+use Rattle.vortex_value.specs.Values.RawTree.{RawTree}
+use Rattle.vortex_value.specs.Values.Scalars.{scalar_raw}
 use Rattle.vortex_value.specs.declared.scalars.Scalar.{Scalar}
-use Rattle.column_keys.specs.Answers.{AreCellsBy, AreColumnsOfKeys, AreCountsOfKeys, HasCells, IsRefusal}
-use Rattle.column_keys.specs.Cells.{AreCellsOf, AreRowsOf, AreTyped, HaveColumn, raws_in}
+use Rattle.column_keys.specs.Answers.{AreCellsBy, AreColumnsOfKeys, AreCountsOfKeys, AreKeys, HasCells, HaveValuesTo, IsRefusal}
+use Rattle.column_keys.specs.Cells.{AreCellsOf, AreRowsOf, AreTyped, HaveColumn, IsRowAt, IsRowOf, key_count, raws_in}
 use Rattle.column_keys.specs.Layout.{values_length}
-use Rattle.column_keys.specs.Read.{AreCountedIn, AreStored, AreWrittenIn, HasSpace, IsNoValueIn, LackSpace}
+use Rattle.column_keys.specs.Read.{AreCountedIn, AreStored, AreWrittenIn, HasSpace, HaveStored, IsNoValueIn, LackSpace}
 use Rattle.column_keys.specs.Tables.{options_in}
 use Rattle.column_keys.specs.Types.{HaveTypes, types_of_kinds}
 use Rattle.column_keys.specs.declared.buffers.ColumnBuffers.{ColumnBuffers}
@@ -74,6 +76,20 @@ cells-by found bytes keys rows which read all =
     subst (λ os. AreCellsOf os (as_type_trees (types_of_kinds found)) which keys.bytes.now keys.offsets.now (map content (raws_in rows which))) read.options'
     (subst (λ ts. AreCellsOf keys.options.now (as_type_trees ts) which keys.bytes.now keys.offsets.now (map content (raws_in rows which))) read.types (cells-of keys rows which all))
 
+-- each key is one of a row
+keys-by : (found : List (Option Kind)) (bytes : List ℕ) (keys : RowKeys) (rows : List (Vec Scalar Global)) → AreReadFrom found bytes keys → AreRowsOf keys rows → AreKeys found bytes keys.bytes.now keys.offsets.now
+keys-by found bytes keys rows read all row l = by_rows rows all.count all.each
+  where
+    by_rows : (rs : List (Vec Scalar Global)) → length rs ≡ key_count keys.offsets.now → ((k : ℕ) (d : Vec Scalar Global) → k < length rs → IsRowOf keys k (map scalar_raw (get_or rs k d).items))
+        → (values : List RawTree) × IsRowAt (map options_in bytes) (as_type_trees (types_of_kinds found)) keys.bytes.now keys.offsets.now row values
+    by_rows [] count each = absurd (omega (arith, l, count))
+    by_rows (r ∷ rs) count each =
+        let values = map scalar_raw (get_or (r ∷ rs) row r).items in (
+          values,
+          subst (λ os. IsRowAt os (as_type_trees (types_of_kinds found)) keys.bytes.now keys.offsets.now row values) read.options'
+              (subst (λ ts. IsRowAt keys.options.now (as_type_trees ts) keys.bytes.now keys.offsets.now row values) read.types (each row r (omega (arith, l, count)))),
+        )
+
 -- ---- the answer
 
 -- the cells of the column of this number
@@ -81,11 +97,22 @@ has-cells : (found : List (Option Kind)) (bytes : List ℕ) (keys : RowKeys) (ro
     → HasCells found bytes which keys.bytes.now keys.offsets.now kind (map content (raws_in rows which))
 has-cells found bytes keys rows which kind read all is = record { kind_is = is; cells_are = cells-by found bytes keys rows which read all }
 
+-- each of them is null, or a value of the kind
+stored-there : (found : List (Option Kind)) (rows : List (Vec Scalar Global)) (n which : ℕ) (kind : Kind) → HaveStored found rows n → which < n → get_or found which None ≡ Some kind → AreStored kind (map content (raws_in rows which)) (length (map content (raws_in rows which)))
+stored-there found rows n which kind stored l is = subst (AreStored kind (map content (raws_in rows which))) (sym (raws-count rows which)) (stored which kind l is)
+
+values-to : (found : List (Option Kind)) (bytes : List ℕ) (keys : RowKeys) (rows : List (Vec Scalar Global)) (n : ℕ) → AreReadFrom found bytes keys → AreRowsOf keys rows → HaveStored found rows n → HaveValuesTo found bytes keys.bytes.now keys.offsets.now n
+values-to found bytes keys rows n read all stored which kind l is = (
+  map content (raws_in rows which),
+  record { has = has-cells found bytes keys rows which kind read all is; stored = stored-there found rows n which kind stored l is },
+)
+
 pub columns-given : (found : List (Option Kind)) (bytes : List ℕ) (keys : RowKeys) (rows : List (Vec Scalar Global)) (old between new : List ColumnBuffers) → AreReadFrom found bytes keys → AreRowsOf keys rows → length old ≡ length found
-    → AreCountedIn found rows (length found) old between → AreWrittenIn found rows (length found) between new → AreColumnsOfKeys found bytes keys.bytes.now keys.offsets.now old new
-columns-given found bytes keys rows old between new read all counts counted written = record {
+    → HaveStored found rows (length found) → AreCountedIn found rows (length found) old between → AreWrittenIn found rows (length found) between new → AreColumnsOfKeys found bytes keys.bytes.now keys.offsets.now old new
+columns-given found bytes keys rows old between new read all counts stored counted written = record {
   types = read.sound;
   count = counts;
+  keys = keys-by found bytes keys rows read all;
   each = λ which d l.
       let one = written.each which d l in
       let before = counted.each which d l in
@@ -93,6 +120,7 @@ columns-given found bytes keys rows old between new read all counts counted writ
         kind = one.0;
         cells = map content (raws_in rows which);
         has = has-cells found bytes keys rows which one.0 read all one.1;
+        stored = stored-there found rows (length found) which one.0 stored l one.1;
         written = written-before one.0 (map content (raws_in rows which)) _ (get_or old which d) (get_or between which d) (get_or new which d) before.2 one.2;
       };
 }
@@ -105,12 +133,13 @@ counts-given found bytes keys rows old new read all counted which d l =
 
 -- ---- the refusals
 
-pub buffer-lacks : (found : List (Option Kind)) (bytes : List ℕ) (keys : RowKeys) (rows : List (Vec Scalar Global)) (old new : List ColumnBuffers) → AreReadFrom found bytes keys → AreRowsOf keys rows → length old ≡ length found → AreCountedIn found rows (length found) old new
-    → LackSpace found rows (length found) new → IsRefusal found bytes keys.bytes.now keys.offsets.now old BufferTooSmall
-buffer-lacks found bytes keys rows old new read all n counted lack = (
+pub buffer-lacks : (found : List (Option Kind)) (bytes : List ℕ) (keys : RowKeys) (rows : List (Vec Scalar Global)) (old new : List ColumnBuffers) → AreReadFrom found bytes keys → AreRowsOf keys rows → length old ≡ length found → HaveStored found rows (length found)
+    → AreCountedIn found rows (length found) old new → LackSpace found rows (length found) new → IsRefusal found bytes keys.bytes.now keys.offsets.now old BufferTooSmall
+buffer-lacks found bytes keys rows old new read all n stored counted lack = (
   (read.sound.counts, n),
   read.sound,
   record {
+    values = values-to found bytes keys rows (length found) read all stored;
     which = lack.which;
     within = lack.within;
     kind = lack.kind;
@@ -135,11 +164,7 @@ value-lacks found bytes keys rows columns (NotAValue column row) read all n h = 
     cells = map content (raws_in rows column);
     has = has-cells found bytes keys rows column h.2.0 read all h.2.1;
     first = h.2.2;
-    before = λ which other l is. (
-      map content (raws_in rows which),
-      has-cells found bytes keys rows which other read all is,
-      subst (AreStored other (map content (raws_in rows which))) (sym (raws-count rows which)) (h.1 which other l is),
-    );
+    before = values-to found bytes keys rows column read all h.1;
   },
 )
 value-lacks found bytes keys rows columns _ read all n h = absurd h

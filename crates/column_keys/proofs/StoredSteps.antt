@@ -9,11 +9,12 @@ use Rattle.arrow_columns.specs.Integers.{item_at, number_of, width_of_item}
 use Rattle.arrow_columns.specs.declared.formats.Format.{Format}
 use Rattle.arrow_columns.specs.declared.kinds.Kind.{Kind}
 use Rattle.column_cells.specs.Contents.{stored_content}
+use Rattle.column_items.specs.Items.{bytes_of_number}
 use Rattle.column_items.specs.Numbers.{HasContentOf, StoresNumber}
 use Rattle.vortex_value.specs.Values.Content.{Content, content, null, sequence, string, tagged, text, truth, typed, whole}
 use Rattle.vortex_value.specs.declared.scalars.Scalar.{Scalar}
 use Rattle.column_keys.specs.Cells.{raws_in}
-use Rattle.column_keys.specs.Layout.{AreNumbers, IsNumberIn}
+use Rattle.column_keys.specs.Layout.{AreNumbers, IsItemIn, IsNumberIn}
 use Rattle.column_keys.specs.Read.{AreStored, HaveStored}
 use Rattle.column_keys.proofs.ColumnsRead.{same-kind}
 
@@ -60,29 +61,34 @@ number-in format (typed t c) z y some h e = ap (stored_content format) e ∙ sym
 -- ---- the numbers of the rows so far
 
 abbrev pub AreNumbersBefore : Format → List Content → ℕ → List ℕ → Type 0
-AreNumbersBefore format cells row values = (k : ℕ) → k < row → IsNumberIn format (get_or cells k null) (number_of (items_of format) (item_at (width_of_item (items_of format)) values k))
+AreNumbersBefore format cells row values = (k : ℕ) → k < row → IsItemIn format (get_or cells k null) (item_at (width_of_item (items_of format)) values k)
 
 pub numbers-none : (format : Format) (cells : List Content) (values : List ℕ) → AreNumbersBefore format cells 0 values
 numbers-none format cells values k l = absurd (omega (arith, l))
 
-pub numbers-more : (format : Format) (cells : List Content) (row : ℕ) (values now item : List ℕ) (c : Content) (z y : ℤ) → get_or cells row null ≡ c → AreNumbersBefore format cells row values
-    → length item ≡ width_of_item (items_of format) → number_of (items_of format) item ≡ y → y ≡ z → IsNumberIn format c z
+-- the item that is written of a number is the one of a content that has the number
+pub item-in : (format : Format) (c : Content) (z y : ℤ) (item : List ℕ) → number_of (items_of format) item ≡ y → item ≡ bytes_of_number (items_of format) y → y ≡ z → IsNumberIn format c z → IsItemIn format c item
+item-in format c z y item is bytes same number = record {
+  number = subst (IsNumberIn format c) (sym (is ∙ same)) number;
+  canonical = bytes ∙ ap (bytes_of_number (items_of format)) (sym is);
+}
+
+pub numbers-more : (format : Format) (cells : List Content) (row : ℕ) (values now item : List ℕ) (c : Content) → get_or cells row null ≡ c → AreNumbersBefore format cells row values → length item ≡ width_of_item (items_of format) → IsItemIn format c item
     → item_at (length item) now row ≡ item → ((k : ℕ) → k < row → item_at (length item) now k ≡ item_at (length item) values k) → AreNumbersBefore format cells (row + 1) now
-numbers-more format cells row values now item c z y there all wide is same number here before k l = by_place (cases_lt k row)
+numbers-more format cells row values now item c there all wide one here before k l = by_place (cases_lt k row)
   where
     width : ℕ
     width = width_of_item (items_of format)
 
-    by_place : (k < row) ⊎ (row ≤ k) → IsNumberIn format (get_or cells k null) (number_of (items_of format) (item_at width now k))
+    by_place : (k < row) ⊎ (row ≤ k) → IsItemIn format (get_or cells k null) (item_at width now k)
     by_place (inl less) =
         let kept : item_at width now k ≡ item_at width values k = ap (λ w. item_at w now k) (sym wide) ∙ before k less ∙ ap (λ w. item_at w values k) wide in
-        subst (λ bytes. IsNumberIn format (get_or cells k null) (number_of (items_of format) bytes)) (sym kept) (all k less)
+        subst (IsItemIn format (get_or cells k null)) (sym kept) (all k less)
     by_place (inr after) =
         let at : row ≡ k = omega (arith, after, l) in
         let bytes : item_at width now row ≡ item = ap (λ w. item_at w now row) (sym wide) ∙ here in
-        let found : number_of (items_of format) (item_at width now row) ≡ z = ap (number_of (items_of format)) bytes ∙ is ∙ same in
-        subst (λ i. IsNumberIn format (get_or cells i null) (number_of (items_of format) (item_at width now i))) at
-        (subst (λ d. IsNumberIn format d (number_of (items_of format) (item_at width now row))) (sym there) (subst (IsNumberIn format c) (sym found) number))
+        subst (λ i. IsItemIn format (get_or cells i null) (item_at width now i)) at
+        (subst (λ d. IsItemIn format d (item_at width now row)) (sym there) (subst (IsItemIn format c) (sym bytes) one))
 
 pub numbers-done : (format : Format) (cells : List Content) (row : ℕ) (values : List ℕ) → row ≡ length cells → AreNumbersBefore format cells row values → AreNumbers format cells values
 numbers-done format cells row values at all k l = all k (omega (arith, l, at))

@@ -10,6 +10,7 @@ use Rattle.arrow_columns.specs.declared.kinds.IntegerKind.{IntegerKind}
 use Rattle.arrow_columns.specs.declared.kinds.Kind.{Kind}
 use Rattle.arrow_columns.specs.declared.kinds.Kind.TheVariants.{Binary, Boolean, Integer, LargeBinary, LargeUtf8, Logical, Null, Utf8}
 use Rattle.column_cells.specs.Contents.{content_or_null, stored_content}
+use Rattle.column_items.specs.Items.{IsCanonical}
 use Rattle.vortex_value.specs.Values.Content.{Content, null, string, text, truth, whole}
 
 -- the contents of the first rows of a column of this kind, whose offsets have 64 bits each
@@ -77,10 +78,15 @@ abbrev pub IsNumberIn : Format → Content → ℤ → Type 0
 IsNumberIn format null z = z ≡ pos 0
 IsNumberIn format c z = stored_content format z ≡ c
 
--- there is an item of the format for each cell, with its number; of a float the one without a sign for 0, and one NaN
+-- the item is the one of the format that is written of a cell: its number is what the content stores, or 0 for a null; of a float 0 has
+-- no sign, and there is one NaN
+pub record IsItemIn (format : Format) (c : Content) (item : List ℕ) : Type 0 where
+  pub number : IsNumberIn format c (number_of (items_of format) item)
+  pub canonical : IsCanonical (items_of format) item
+
+-- there is such an item for each cell
 abbrev pub AreNumbers : Format → List Content → List ℕ → Type 0
-AreNumbers format cells values =
-    (row : ℕ) → row < length cells → IsNumberIn format (slice_index_or cells row null) (number_of (items_of format) (item_at (width_of_item (items_of format)) values row))
+AreNumbers format cells values = (row : ℕ) → row < length cells → IsItemIn format (slice_index_or cells row null) (item_at (width_of_item (items_of format)) values row)
 
 -- there are the bytes of each cell, none for a null, one after the other from the first byte on
 pub record AreStrings (cells : List Content) (values offsets : List ℕ) : Type 0 where

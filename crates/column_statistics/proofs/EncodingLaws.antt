@@ -12,20 +12,21 @@ use Rattle.vortex_value.specs.Validity.{Valid}
 use Rattle.vortex_value.specs.TypesWithin.{HasNoVariant}
 use Rattle.vortex_value.specs.Values.Scalars.{scalar_raw, scalar_type}
 use Rattle.vortex_value.proofs.OrderAgrees.{no_typed}
-use Rattle.vortex_cells.specs.Cells.{cell_order, order_from_above}
+use Rattle.vortex_cells.specs.Cells.{Cell, cell_order, order_from_above}
 use Rattle.statistics_bytes.specs.EncodingSteps.{HasNoVariantIn, HasNoVariants}
 use Rattle.vortex_statistics.specs.Merging.{AreRightTogether, bound_of_both, bound_order, merged, outer_by, sum_of}
 use Rattle.vortex_statistics.specs.Statistics.{HasValidBounds, IsValidBound, Known, KnownBound, known, known_bound, may_be_value}
 use Rattle.vortex_statistics.specs.declared.column_statistics.Bound.{Bound}
 use Rattle.vortex_statistics.specs.declared.column_statistics.ColumnStatistics.{ColumnStatistics}
 use Rattle.arrow_columns.specs.declared.formats.Format.TheVariants as formats
+use Rattle.column_items.specs.Numbers.{HasContentOf}
 use Rattle.column_items.proofs.FormatTypes.{no_variant_in as no_variant_in_format}
 use Rattle.named_statistics.specs.Named.{IsBadNamedEncoding, IsWrongAt, SaysNamedBound, named_encoding}
-use Rattle.statistics_bytes.specs.Encoding.{AreOf, IsBoundOf, IsHeldBound, IsHeldKnown}
+use Rattle.statistics_bytes.specs.Encoding.{AreOf, IsBoundOf, IsCellOf, IsHeldBound, IsHeldKnown}
 use Rattle.vortex_statistics.specs.declared.error.StatisticsError.{StatisticsError}
 use Rattle.vortex_statistics.specs.declared.error.StatisticsError.TheVariants.{BadBytes, HasVariant, OutOfMemory as Memory, TooManyRows}
 use Rattle.column_statistics.specs.Errors.{IsColumnStatisticsError}
-use Rattle.column_statistics.specs.Encodings.{IsEncodingAs, IsEncodingError, IsExtensionType, IsMergeError, IsMergedEncoding, IsReadError, fault_of_piece, read_fault}
+use Rattle.column_statistics.specs.Encodings.{HaveValues, IsEncodingAs, IsEncodingError, IsExtensionType, IsMergeError, IsMergedEncoding, IsPieceOf, IsReadError, fault_of_piece, read_fault}
 use Rattle.column_statistics.specs.declared.errors.MergeError.{MergeError}
 use Rattle.column_statistics.specs.declared.errors.ReadError.{ReadError}
 use Rattle.column_statistics.specs.declared.errors.ReadError.TheVariants as read
@@ -86,8 +87,13 @@ are_of t s n h k = record {
 
 -- ---- of two pieces
 
-module _ (t : TypeTree) where
-  outer_of : (o : Option Ordering) (a b : Option KnownBound) → IsBoundOf t a → IsBoundOf t b → IsBoundOf t (outer_by o a b)
+-- the bound, if it is there, is such a cell
+abbrev IsBoundWith : (Cell → Type 0) → Option KnownBound → Type 0
+IsBoundWith P b = IfSome b (λ b. P b.value)
+
+-- the bounds of both are such cells, if those of each are
+module _ (P : Cell → Type 0) where
+  outer_of : (o : Option Ordering) (a b : Option KnownBound) → IsBoundWith P a → IsBoundWith P b → IsBoundWith P (outer_by o a b)
   outer_of None a b h k = tt
   outer_of (Some Less) a b h k = h
   outer_of (Some Greater) a b h k = k
@@ -95,13 +101,27 @@ module _ (t : TypeTree) where
   outer_of (Some Equal) (Some a) None h k = tt
   outer_of (Some Equal) (Some a) (Some b) h k = h
 
-  both_of : (o : Option Ordering) (p q : Bool) (a b : Option KnownBound) → IsBoundOf t a → IsBoundOf t b → IsBoundOf t (bound_of_both o p q a b)
+  both_of : (o : Option Ordering) (p q : Bool) (a b : Option KnownBound) → IsBoundWith P a → IsBoundWith P b → IsBoundWith P (bound_of_both o p q a b)
   both_of o true true a b h k = outer_of o a b h k
   both_of o true false a b h k = h
   both_of o false true a b h k = k
   both_of o false false None b h k = k
   both_of o false false (Some a) b h k = h
 
+  lower_of : (s u : Known) → IsBoundWith P s.lower → IsBoundWith P u.lower → IsBoundWith P ((merged s u).lower)
+  lower_of s u h k = both_of (bound_order cell_order s.lower u.lower) (may_be_value s) (may_be_value u) s.lower u.lower h k
+
+  upper_of : (s u : Known) → IsBoundWith P s.upper → IsBoundWith P u.upper → IsBoundWith P ((merged s u).upper)
+  upper_of s u h k = both_of (bound_order order_from_above s.upper u.upper) (may_be_value s) (may_be_value u) s.upper u.upper h k
+
+-- so the bounds of both are null or values of the kind, if those of each are
+merged_values : (kind : Kind) (s u : Known) → HaveValues kind s → HaveValues kind u → HaveValues kind (merged s u)
+merged_values kind s u h k = record {
+  lower = lower_of (λ x. HasContentOf kind x.content) s u h.lower k.lower;
+  upper = upper_of (λ x. HasContentOf kind x.content) s u h.upper k.upper;
+}
+
+module _ (t : TypeTree) where
   small_sum : (m n : Option ℕ) → IfSome (sum_of m n) (λ k. k < 2 ^ 64)
   small_sum None n = tt
   small_sum (Some m) None = tt
@@ -115,8 +135,8 @@ module _ (t : TypeTree) where
   merged_of s u h k l = record {
     rows = l;
     nulls = small_sum s.null_count u.null_count;
-    lower = both_of (bound_order cell_order s.lower u.lower) (may_be_value s) (may_be_value u) s.lower u.lower h.lower k.lower;
-    upper = both_of (bound_order order_from_above s.upper u.upper) (may_be_value s) (may_be_value u) s.upper u.upper h.upper k.upper;
+    lower = lower_of (IsCellOf t) s u h.lower k.lower;
+    upper = upper_of (IsCellOf t) s u h.upper k.upper;
   }
 
 -- what is of a type has keys, if the type has
@@ -165,16 +185,21 @@ logical_takes _ h = absurd h
 pub merged_keyed : (t : TypeTree) (one other : List ℕ) (s u m : Known) → IsEncodingAs t one s → IsEncodingAs t other u → s.row_count + u.row_count < 2 ^ 64 → m ≡ merged s u → HasNoVariants m
 merged_keyed t one other s u m h k l e = subst HasNoVariants (sym e) (keyed t (merged s u) (merged_of t s u h.of_type k.of_type l))
 
-pub merged_encoding_of : (t v : TypeTree) (one other bytes : List ℕ) (s u m : Known) → v ≡ t → IsEncodingAs t one s → IsEncodingAs t other u → s.row_count + u.row_count < 2 ^ 64
-    → m ≡ merged s u → AreRightTogether s u m → bytes ≡ named_encoding v m → IsMergedEncoding t one other bytes
-merged_encoding_of t v one other bytes s u m q h k l e r f = record {
-  first = s;
-  second = u;
-  is_first = h;
-  is_second = k;
-  together = subst (AreRightTogether s u) e r;
-  both = record { of_type = merged_of t s u h.of_type k.of_type l; is = f ∙ ap (λ w. named_encoding w m) q ∙ ap (named_encoding t) e };
-}
+pub merged_encoding_of : (kind : Kind) (v : TypeTree) (one other bytes : List ℕ) (s u m : Known) → v ≡ type_of_kind kind → IsPieceOf kind one s → IsPieceOf kind other u → s.row_count + u.row_count < 2 ^ 64
+    → m ≡ merged s u → AreRightTogether s u m → bytes ≡ named_encoding v m → IsMergedEncoding kind one other bytes
+merged_encoding_of kind v one other bytes s u m q h k l e r f =
+    let t : TypeTree = type_of_kind kind in
+    record {
+      first = s;
+      second = u;
+      is_first = h;
+      is_second = k;
+      together = subst (AreRightTogether s u) e r;
+      both = record {
+        is_encoding = record { of_type = merged_of t s u h.is_encoding.of_type k.is_encoding.of_type l; is = f ∙ ap (λ w. named_encoding w m) q ∙ ap (named_encoding t) e };
+        values = merged_values kind s u h.values k.values;
+      };
+    }
 
 pub first_wrong : (kind : Kind) (one other : List ℕ) (fault : ReadError) (told : MergeError) → told ≡ fault_of_piece 0 fault → IsReadError kind one fault → IsMergeError kind one other told
 first_wrong kind one other fault told e h = subst (IsMergeError kind one other) (sym e) (by_fault fault h)
@@ -188,18 +213,17 @@ first_wrong kind one other fault told e h = subst (IsMergeError kind one other) 
     by_fault (read.BadBytes place) k = inl (refl, k)
     by_fault read.NotAValue k = inl (refl, k)
 
-pub second_wrong : (kind : Kind) (one other : List ℕ) (s : Known) (fault : ReadError) (told : MergeError) → told ≡ fault_of_piece 1 fault → IsEncodingAs (type_of_kind kind) one s → IsReadError kind other fault
-    → IsMergeError kind one other told
+pub second_wrong : (kind : Kind) (one other : List ℕ) (s : Known) (fault : ReadError) (told : MergeError) → told ≡ fault_of_piece 1 fault → IsPieceOf kind one s → IsReadError kind other fault → IsMergeError kind one other told
 second_wrong kind one other s fault told e f h = subst (IsMergeError kind one other) (sym e) (by_fault fault h)
   where
     by_memory : IsExtensionType (type_of_kind kind) ⊎ SaysNamedBound (type_of_kind kind) other → IsMergeError kind one other (fault_of_piece 1 read.OutOfMemory)
     by_memory (inl k) = inl k
-    by_memory (inr k) = inr (inr (inl (record { statistics = s; of_type = f.of_type; is = f.is }, k)))
+    by_memory (inr k) = inr (inr (inl ((s, f), k)))
 
     by_fault : (fault : ReadError) → IsReadError kind other fault → IsMergeError kind one other (fault_of_piece 1 fault)
     by_fault read.OutOfMemory k = by_memory k
-    by_fault (read.BadBytes place) k = inr (refl, record { statistics = s; of_type = f.of_type; is = f.is }, k)
-    by_fault read.NotAValue k = inr (refl, record { statistics = s; of_type = f.of_type; is = f.is }, k)
+    by_fault (read.BadBytes place) k = inr (refl, (s, f), k)
+    by_fault read.NotAValue k = inr (refl, (s, f), k)
 
 -- the bounds are values of the type
 bound_in : (t : TypeTree) (b : Option Bound) → IsBoundOf t (option_map known_bound b) → IsValidBound b → IfSome b (IsBoundIn t)

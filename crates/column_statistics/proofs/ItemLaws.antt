@@ -18,7 +18,7 @@ use Rattle.vortex_value.specs.declared.scalars.Scalar.{Scalar}
 use Rattle.vortex_value.specs.declared.values.ScalarValue.{ScalarValue}
 use Rattle.column_items.proofs.ItemFits.{fits_item}
 use Rattle.column_items.proofs.NumberSteps.{held, no_null, stored_held}
-use Rattle.column_items.specs.Items.{FitsItem}
+use Rattle.column_items.specs.Items.{FitsItem, bytes_of_number}
 use Rattle.column_items.specs.Numbers.{HasContentOf, StoresNumber}
 use Rattle.arrow_columns.specs.Formats.{items_of}
 use Rattle.arrow_columns.specs.Integers.{number_of, width_of_item}
@@ -122,8 +122,9 @@ stored_in kind format x v e f h = stored_held format x v f (subst (λ k. HasCont
 pub fits_stored : (format : Format) (c : Content) (z y : ℤ) → StoresNumber format c z → y ≡ z → FitsItem (items_of format) y
 fits_stored format c z y h e = subst (FitsItem (items_of format)) (sym e) (fits_item format z h.sound h.value)
 
-pub stored_item : (format : Format) (c : Content) (z y : ℤ) (bytes : List ℕ) → StoresNumber format c z → y ≡ z → length bytes ≡ width_of_item (items_of format) → number_of (items_of format) bytes ≡ y → IsItemOf (Logical format) c bytes
-stored_item format c z y bytes h e long is = (long, ap (stored_content format) (is ∙ e) ∙ sym h.is)
+pub stored_item : (format : Format) (c : Content) (z y : ℤ) (bytes : List ℕ) → StoresNumber format c z → y ≡ z → length bytes ≡ width_of_item (items_of format) → number_of (items_of format) bytes ≡ y
+    → bytes ≡ bytes_of_number (items_of format) y → IsItemOf (Logical format) c bytes
+stored_item format c z y bytes h e long is item = (long, ap (stored_content format) (is ∙ e) ∙ sym h.is, item ∙ ap (bytes_of_number (items_of format)) (sym is))
 
 -- ---- as bytes
 

@@ -1,5 +1,6 @@
 -- What is written of columns, merged and read stays right.
 use Rattle.std.proofs.Common.{◌∙◌, ℕ, List, sym, subst}
+use Rattle.column_cells.specs.Types.{type_of_kind}
 use Rattle.vortex_dtype.specs.TypeTree.{TypeTree}
 use Rattle.vortex_cells.specs.Cells.{Cell}
 use Rattle.named_statistics.specs.Heads.{head_of}
@@ -22,10 +23,10 @@ module _ (tell : EncodingsTellStatistics) where
       is_encoding = record { of_type = h.of_type; is = h.is };
       right = h.right;
     };
-    merged = λ t one other bytes cells others h k is. record {
+    merged = λ kind one other bytes cells others h k is. record {
       statistics = _;
-      is_encoding = is.both;
-      right = is.together cells others (right_read t one cells is.first h is.is_first) (right_read t other others is.second k is.is_second);
+      is_encoding = is.both.is_encoding;
+      right = is.together cells others (right_read (type_of_kind kind) one cells is.first h is.is_first.is_encoding) (right_read (type_of_kind kind) other others is.second k is.is_second.is_encoding);
     };
     read = right_read;
   }

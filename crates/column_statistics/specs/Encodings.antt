@@ -7,7 +7,7 @@ use Rattle.vortex_dtype.specs.TypeTree.{TypeTree, extension_type}
 use Rattle.arrow_columns.specs.declared.kinds.Kind.{Kind}
 use Rattle.column_cells.specs.Types.{type_of_kind}
 use Rattle.column_items.specs.Numbers.{HasContentOf}
-use Rattle.named_statistics.specs.Named.{IsNamedEncodingOf, IsWrongAt, SaysNamedBound, named_encoding}
+use Rattle.named_statistics.specs.Named.{IsWrongAt, SaysNamedBound, named_encoding}
 use Rattle.statistics_bytes.specs.Encoding.{AreOf}
 use Rattle.vortex_statistics.specs.Merging.{AreRightTogether, merged}
 use Rattle.vortex_statistics.specs.Statistics.{AreRight, Known, KnownBound, known}
@@ -80,46 +80,54 @@ read_fault (any.BadBytes place) = read.BadBytes place
 
 -- ---- of two pieces
 
+-- the bytes are the encoding of these statistics of the kind, whose bounds are null or values of it
+pub record IsPieceOf (kind : Kind) (bytes : List ℕ) (s : Known) : Type 0 where
+  pub is_encoding : IsEncodingAs (type_of_kind kind) bytes s
+  pub values : HaveValues kind s
+
+-- the bytes are such an encoding
+abbrev pub IsPiece : Kind → List ℕ → Type 0
+IsPiece kind bytes = (s : Known) × IsPieceOf kind bytes s
+
 -- the bytes are the encoding of the statistics of both pieces, which are right for both if those of each are
-pub record IsMergedEncoding (t : TypeTree) (one other bytes : List ℕ) : Type 0 where
+pub record IsMergedEncoding (kind : Kind) (one other bytes : List ℕ) : Type 0 where
   pub first : Known
   pub second : Known
-  pub is_first : IsEncodingAs t one first
-  pub is_second : IsEncodingAs t other second
+  pub is_first : IsPieceOf kind one first
+  pub is_second : IsPieceOf kind other second
   pub together : AreRightTogether first second (merged first second)
-  pub both : IsEncodingAs t bytes (merged first second)
+  pub both : IsPieceOf kind bytes (merged first second)
 
 -- both pieces are encodings, and 64 bits do not count their rows together
-pub record HaveTooManyRows (t : TypeTree) (one other : List ℕ) : Type 0 where
+pub record HaveTooManyRows (kind : Kind) (one other : List ℕ) : Type 0 where
   pub first : Known
   pub second : Known
-  pub is_first : IsEncodingAs t one first
-  pub is_second : IsEncodingAs t other second
+  pub is_first : IsPieceOf kind one first
+  pub is_second : IsPieceOf kind other second
   pub many : 2 ^ 64 ≤ first.row_count + second.row_count
 
 -- both pieces are encodings, and 64 bits count their rows together
-pub record CanBeMerged (t : TypeTree) (one other : List ℕ) : Type 0 where
+pub record CanBeMerged (kind : Kind) (one other : List ℕ) : Type 0 where
   pub first : Known
   pub second : Known
-  pub is_first : IsEncodingAs t one first
-  pub is_second : IsEncodingAs t other second
+  pub is_first : IsPieceOf kind one first
+  pub is_second : IsPieceOf kind other second
   pub few : first.row_count + second.row_count < 2 ^ 64
 
--- what takes memory: a logical type; a bound that the first piece says; if that is an encoding, one that the second says; and
--- if both can be merged, the encoding of both
-abbrev pub TakesMemory : TypeTree → List ℕ → List ℕ → Type 0
-TakesMemory t one other = IsExtensionType t ⊎ (SaysNamedBound t one ⊎ ((IsNamedEncodingOf t one × SaysNamedBound t other) ⊎ CanBeMerged t one other))
+-- what takes memory: a logical type; a bound that the first piece says; if that is well, one that the second says; and if both can
+-- be merged, the encoding of both
+abbrev pub TakesMemory : Kind → List ℕ → List ℕ → Type 0
+TakesMemory kind one other =
+    IsExtensionType (type_of_kind kind) ⊎ (SaysNamedBound (type_of_kind kind) one ⊎ ((IsPiece kind one × SaysNamedBound (type_of_kind kind) other) ⊎ CanBeMerged kind one other))
 
 -- why two pieces are not merged: of those that are no encoding, or have a bound that is no value, the first, by its number and
--- offset; or there is no memory
+-- offset; or there is no memory. Nothing is said of the second piece unless the first one is well
 abbrev pub IsMergeError : Kind → List ℕ → List ℕ → MergeError → Type 0
-IsMergeError kind one other merge.OutOfMemory = TakesMemory (type_of_kind kind) one other
-IsMergeError kind one other merge.TooManyRows = HaveTooManyRows (type_of_kind kind) one other
+IsMergeError kind one other merge.OutOfMemory = TakesMemory kind one other
+IsMergeError kind one other merge.TooManyRows = HaveTooManyRows kind one other
 IsMergeError kind one other (merge.BadBytes piece place) =
-    ((piece ≡ 0) × IsWrongAt (type_of_kind kind) one place)
-    ⊎ ((piece ≡ 1) × IsNamedEncodingOf (type_of_kind kind) one × IsWrongAt (type_of_kind kind) other place)
-IsMergeError kind one other (merge.NotAValue piece) =
-    ((piece ≡ 0) × HasNoValue kind one) ⊎ ((piece ≡ 1) × IsNamedEncodingOf (type_of_kind kind) one × HasNoValue kind other)
+    ((piece ≡ 0) × IsWrongAt (type_of_kind kind) one place) ⊎ ((piece ≡ 1) × IsPiece kind one × IsWrongAt (type_of_kind kind) other place)
+IsMergeError kind one other (merge.NotAValue piece) = ((piece ≡ 0) × HasNoValue kind one) ⊎ ((piece ≡ 1) × IsPiece kind one × HasNoValue kind other)
 
 -- the same reason, of one of the pieces that is not read
 abbrev pub fault_of_piece : ℕ → ReadError → MergeError

@@ -3,6 +3,7 @@ use Rattle.std.specs.Prelude.{◌≡◌, ℕ, Bool, true, false, List, [], ◌�
 use Rattle.arrow_columns.specs.Formats.{items_of}
 use Rattle.arrow_columns.specs.Integers.{integer_of, number_of, width_of, width_of_item}
 use Rattle.column_cells.specs.Contents.{stored_content}
+use Rattle.column_items.specs.Items.{IsCanonical}
 use Rattle.arrow_columns.specs.declared.kinds.Kind.{Kind}
 use Rattle.arrow_columns.specs.declared.kinds.Kind.TheVariants.{Binary, Boolean, Integer, LargeBinary, LargeUtf8, Logical, Utf8}
 use Rattle.vortex_value.specs.Values.Content.{Content, string, text, truth, whole}
@@ -23,12 +24,13 @@ abbrev pub truth_byte : Bool → ℕ
 truth_byte false = 0
 truth_byte true = 1
 
--- the bytes are those of a value of a column of the kind: of an integer as a buffer has it, of a logical type the item of a buffer whose
--- number is stored so, and else the value itself
+-- the bytes are those of a value of a column of the kind: of an integer as a buffer has it, of a logical type the item that is written
+-- of the number that is stored so, and else the value itself
 abbrev pub IsItemOf : Kind → Content → List ℕ → Type 0
 IsItemOf (Integer kind) (whole z) bytes = (length bytes ≡ width_of kind) × (integer_of kind bytes ≡ z)
 IsItemOf (Logical format) content bytes =
     (length bytes ≡ width_of_item (items_of format)) × (stored_content format (number_of (items_of format) bytes) ≡ content)
+    × IsCanonical (items_of format) bytes
 IsItemOf Boolean (truth b) bytes = bytes ≡ truth_byte b ∷ []
 IsItemOf Utf8 (text s) bytes = bytes ≡ s
 IsItemOf LargeUtf8 (text s) bytes = bytes ≡ s

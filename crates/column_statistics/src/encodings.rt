@@ -58,9 +58,10 @@ fn dtype_of_column(alloc: Global, column: Column) -> Result<DType, VortexError>
 /// encodings of both. The kind is that of the column.
 ///
 /// `BadBytes` has the first piece that is no encoding, before `TooManyRows`, and `NotAValue` the first
-/// with a bound that is no value of the logical type. `OutOfMemory` comes only in place of what takes
-/// memory: a logical type, the bounds of the first piece, those of the second if the first is an
-/// encoding, and the bytes of both if they can be merged.
+/// with a bound that is no value of the logical type. Of the second piece something is told only behind
+/// a first one that is well. `OutOfMemory` comes only in place of what takes memory: a logical type, the
+/// bounds of the first piece, those of the second if the first is well, and the bytes of both if they
+/// can be merged.
 #[tactic(auto, using(crate::proofs::EncodingLaws::shown))]
 pub fn merged_encoding(
     alloc: Global,
@@ -69,7 +70,7 @@ pub fn merged_encoding(
     other: &[u8],
 ) -> Result<Vec<u8>, MergeError>
     ensures encoding { IfOk result
-        (λ bytes. IsMergedEncoding (type_of_kind kind) one.now other.now bytes.items) }
+        (λ bytes. IsMergedEncoding kind one.now other.now bytes.items) }
     ensures refused { IfErr result (IsMergeError kind one.now other.now) }
 {
     let Ok(dtype) = dtype_of(alloc, kind) else {

@@ -47,7 +47,7 @@ returns-then-not-count_columns-clause-refused c =
     let keys : RowKeys = record { dtypes = c.deref.result; options = c.deref-2.result; offsets = c.args.offsets; bytes = c.args.bytes } in
     let read : AreReadFrom c.args.kinds.now c.args.options.now keys = record { types = ap (map type_of) c.deref.ensures.value ∙ c.in_ok-types.ensures.types; options' = c.deref-2.ensures.value ∙ c.in_ok-types.ensures.options; sound = c.requires.types } in
     let all : AreRowsOf keys c.as_slice-rows.result.now = subst (AreRowsOf keys) (sym c.as_slice-rows.ensures.value) c.in_ok-rows.ensures.rows in
-    buffer-lacks c.args.kinds.now c.args.options.now keys c.as_slice-rows.result.now c.args.columns.now c.count_columns.new.columns read all c.requires.lengths c.count_columns.ensures.counted c.if-not-count_columns.ensures.space
+    buffer-lacks c.args.kinds.now c.args.options.now keys c.as_slice-rows.result.now c.args.columns.now c.count_columns.new.columns read all c.requires.lengths c.in_ok-expect_values.ensures.stored c.count_columns.ensures.counted c.if-not-count_columns.ensures.space
 
 pub returns-then-not-count_columns-clause-counted : goal.returns-then-not-count_columns-clause-counted
 returns-then-not-count_columns-clause-counted c =
@@ -78,4 +78,4 @@ returns-clause-columns c =
     let keys : RowKeys = record { dtypes = c.deref.result; options = c.deref-2.result; offsets = c.args.offsets; bytes = c.args.bytes } in
     let read : AreReadFrom c.args.kinds.now c.args.options.now keys = record { types = ap (map type_of) c.deref.ensures.value ∙ c.in_ok-types.ensures.types; options' = c.deref-2.ensures.value ∙ c.in_ok-types.ensures.options; sound = c.requires.types } in
     let all : AreRowsOf keys c.as_slice-rows.result.now = subst (AreRowsOf keys) (sym c.as_slice-rows.ensures.value) c.in_ok-rows.ensures.rows in
-    columns-given c.args.kinds.now c.args.options.now keys c.as_slice-rows.result.now c.args.columns.now c.count_columns.new.columns c.write_columns.new.columns read all c.requires.lengths c.count_columns.ensures.counted c.write_columns.ensures
+    columns-given c.args.kinds.now c.args.options.now keys c.as_slice-rows.result.now c.args.columns.now c.count_columns.new.columns c.write_columns.new.columns read all c.requires.lengths c.in_ok-expect_values.ensures.stored c.count_columns.ensures.counted c.write_columns.ensures

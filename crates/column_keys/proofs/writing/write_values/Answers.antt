@@ -9,7 +9,7 @@ use Rattle.vortex_value.specs.Values.Content.{content}
 use Rattle.vortex_value.specs.Values.Scalars.{scalar_content}
 use Rattle.column_keys.specs.Cells.{raws_in}
 use Rattle.column_keys.proofs.RowsRead.{content-at, raws-count}
-use Rattle.column_keys.proofs.StoredSteps.{item-buffer, numbers-done, numbers-more, numbers-none}
+use Rattle.column_keys.proofs.StoredSteps.{item-buffer, item-in, numbers-done, numbers-more, numbers-none}
 use Rattle.column_keys.proofs.writing.write_values.Goals as goal
 
 pub loop-row-init : goal.loop-row-init
@@ -30,8 +30,10 @@ loop-row-preserved c =
     let raws = raws_in c.args.rows.now c.args.which in
     let x = c.cell_at.result.now in
     let fits : FitsSigned w128 c.stored_or_zero-number.result = search rules in
-    numbers-more c.args.format (map content raws) c.loop-row.row c.loop-row.values c.put_item.new.values (bytes_of_stored c.item_of_number.result) (scalar_content x) _ _ (content-at raws c.loop-row.row x c.cell_at.ensures) c.loop-row.invariant
-    c.item_of_number.ensures.width c.item_of_number.ensures.number (to_z-of_z w128 c.stored_or_zero-number.result fits) c.stored_or_zero-number.ensures.number c.put_item.ensures.item c.put_item.ensures.before
+    let item = bytes_of_stored c.item_of_number.result in
+    let is = item-in c.args.format (scalar_content x) _ _ item c.item_of_number.ensures.number c.item_of_number.ensures.item (to_z-of_z w128 c.stored_or_zero-number.result fits) c.stored_or_zero-number.ensures.number in
+    numbers-more c.args.format (map content raws) c.loop-row.row c.loop-row.values c.put_item.new.values item (scalar_content x) (content-at raws c.loop-row.row x c.cell_at.ensures) c.loop-row.invariant
+    c.item_of_number.ensures.width is c.put_item.ensures.item c.put_item.ensures.before
 
 pub returns : goal.returns
 returns c =

@@ -22,14 +22,14 @@ item_of_number-requires-clause-fits c =
 pub returns-in-Four : goal.returns-in-Four
 returns-in-Four c =
     let f : FitsSigned w128 c.in-Some.number = search rules in
-    stored_item c.args.format _ c.in-Some.number _ _ c.in-Some.ensures (to_z-of_z w128 c.in-Some.number f) c.in-Four.ensures.width c.in-Four.ensures.number
+    stored_item c.args.format _ c.in-Some.number _ _ c.in-Some.ensures (to_z-of_z w128 c.in-Some.number f) c.in-Four.ensures.width c.in-Four.ensures.number c.in-Four.ensures.item
 
 pub returns-in-Eight : goal.returns-in-Eight
 returns-in-Eight c =
     let f : FitsSigned w128 c.in-Some.number = search rules in
-    stored_item c.args.format _ c.in-Some.number _ _ c.in-Some.ensures (to_z-of_z w128 c.in-Some.number f) c.in-Eight.ensures.width c.in-Eight.ensures.number
+    stored_item c.args.format _ c.in-Some.number _ _ c.in-Some.ensures (to_z-of_z w128 c.in-Some.number f) c.in-Eight.ensures.width c.in-Eight.ensures.number c.in-Eight.ensures.item
 
 pub returns-in-Sixteen : goal.returns-in-Sixteen
 returns-in-Sixteen c =
     let f : FitsSigned w128 c.in-Some.number = search rules in
-    stored_item c.args.format _ c.in-Some.number _ _ c.in-Some.ensures (to_z-of_z w128 c.in-Some.number f) c.in-Sixteen.ensures.width c.in-Sixteen.ensures.number
+    stored_item c.args.format _ c.in-Some.number _ _ c.in-Some.ensures (to_z-of_z w128 c.in-Some.number f) c.in-Sixteen.ensures.width c.in-Sixteen.ensures.number c.in-Sixteen.ensures.item
