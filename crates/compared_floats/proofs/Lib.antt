@@ -1,0 +1,3 @@
+mod Compared
+mod FloatCells
+mod ZoneRows

@@ -1,0 +1,8 @@
+mod CellLaws
+mod Compared
+mod DecimalBound
+mod Decimals
+mod Finer
+mod FloatOrder
+mod PlaceOrder
+mod Values
