@@ -5,12 +5,12 @@ ghost use Rattle.std.specs.Prelude.{◌≡◌, ◌==◌, if◌then◌else◌};
 use crate::files::{at_place, buffered};
 use crate::loading::Sought;
 use crate::watching::Watched;
-use record_search::{RowFilter, count_rows, find_rows};
+use record_search::{count_rows, find_rows};
 use std::alloc::Global;
 use std::fs::File;
 use std::io::{BufRead, BufReader};
 use zone_index::{
-    Index, Logged, Position, SearchError, Sink, Tally, count_rest, find_rest, number_after,
+    Index, Logged, Matcher, Position, SearchError, Sink, Tally, count_rest, find_rest, number_after,
 };
 
 /// How many records of a stream are in memory at a time.
@@ -132,10 +132,10 @@ pub fn count_indexed(
 
 /// Gives a sink the records of a stream that match, and says how many they are. The first one
 /// stands here.
-pub fn find_stream<B: BufRead, S: Sink>(
+pub fn find_stream<M: Matcher, B: BufRead, S: Sink>(
     alloc: Global,
     start: Position,
-    matcher: &RowFilter<'_>,
+    matcher: &M,
     reader: &mut B,
     sink: &mut S,
 ) -> Result<u64, SearchError> {
@@ -143,10 +143,10 @@ pub fn find_stream<B: BufRead, S: Sink>(
 }
 
 /// Counts the records of a stream that match, the first of which stands at this offset.
-pub fn count_stream<B: BufRead>(
+pub fn count_stream<M: Matcher, B: BufRead>(
     alloc: Global,
     start: u64,
-    matcher: &RowFilter<'_>,
+    matcher: &M,
     reader: &mut B,
 ) -> Result<u64, SearchError> {
     count_rest(alloc, PIECE, start, matcher, reader)

@@ -1,6 +1,6 @@
 //! Columns as a text that lists them, with their names and kinds.
 
-use crate::program_errors::ProgramError;
+use crate::program_errors::{About, ProgramError};
 use csv_columns::{NamedColumn, column_of, is_name, push_kind};
 use std::alloc::{AllocError, Global};
 use std::fmt::{self, Display, Formatter, Write};
@@ -72,14 +72,16 @@ fn add_column(
 
 /// The error of a text that is no column.
 fn no_column(alloc: Global, text: &str) -> ProgramError {
-    ProgramError::made(format!(in alloc;
+    let said = format!(in alloc;
         "--columns: {text:?} is no column: a name and a kind, as 'city utf8?' or 'fare decimal(10,2)'"
-    ))
+    );
+    ProgramError::made(About::AllFiles, said)
 }
 
 /// The error of a name that two columns have.
 fn same_name(alloc: Global, name: &str) -> ProgramError {
-    ProgramError::made(format!(in alloc; "--columns: two columns have the name {name:?}"))
+    let said = format!(in alloc; "--columns: two columns have the name {name:?}");
+    ProgramError::made(About::AllFiles, said)
 }
 
 /// The column that a name and a kind are.

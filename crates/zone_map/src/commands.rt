@@ -9,9 +9,21 @@ const ABOUT_STATUS: &str =
     "The status is 0 if a row was found, 1 if none was, and 2 after an error. \
     zone_map COMMAND --help lists the options of a command.
 
-Example:
+Examples:
   zone_map index trips.csv --header
-  zone_map find trips.csv \"city = 'Oslo' and fare between 100 and 200\" --tell";
+  zone_map find trips.csv \"city = 'Oslo' and fare between 100 and 200\" --tell
+  zone_map count logs/*.csv \"status >= 500\"";
+
+/// How an index is asked for.
+const INDEX_USAGE: &str = "zone_map index [OPTIONS] <FILE>...";
+
+/// How rows are asked for.
+const FIND_USAGE: &str = "zone_map find [OPTIONS] <FILE>... <FILTER>
+       zone_map find [OPTIONS] --where <FILTER> <FILE>...";
+
+/// How counts are asked for.
+const COUNT_USAGE: &str = "zone_map count [OPTIONS] <FILE>... <FILTER>
+       zone_map count [OPTIONS] --where <FILTER> <FILE>...";
 
 /// What the help of a command ends with that makes an index.
 const ABOUT_COLUMNS: &str =
@@ -31,12 +43,15 @@ const ABOUT_FILTERS: &str =
     of a file without named columns, line is the whole line.
 
 Without FILE.zones, and with --whole, --columns, --delimiter, --header, --null or --lenient, \
-    the file is searched whole.";
+    a file is searched whole.
+
+If there are several files, each has its own index and its own columns. What is wrong with one is reported, \
+    the others are answered, and the status is 2.";
 
 /// What the words ask for.
 #[derive(Drop)]
 pub enum Asked<'a> {
-    /// An index of a file.
+    /// An index of each file.
     Index(IndexRequest<'a>),
     /// The rows that match, or how many there are.
     Search(SearchRequest<'a>),
@@ -69,18 +84,18 @@ impl Reading<'_> {
     }
 }
 
-/// How a file is to be indexed.
+/// How files are to be indexed.
 #[derive(Drop)]
 pub struct IndexRequest<'a> {
-    /// The file.
-    pub file: &'a str,
-    /// How its records are to be read.
+    /// The files, or patterns of files.
+    pub files: Vec<&'a str>,
+    /// How their records are to be read.
     pub reading: Reading<'a>,
     /// How many records a zone has.
     pub rows: u64,
     /// How many bytes a bound has at most.
     pub bound_length: usize,
-    /// Whether the index that stands there is to be extended by what is new in the file.
+    /// Whether the indexes that stand there are to be extended by what is new in the files.
     pub appends: bool,
 }
 
@@ -95,24 +110,40 @@ pub enum Wanted {
     Count,
 }
 
-/// What is to be sought in a file.
+/// Whether the name of its file stands before each row and each count.
+#[derive(Clone, Copy, PartialEq, Eq)]
+pub enum Naming {
+    /// If there are several files.
+    OfSeveral,
+    /// Also if there is one.
+    Always,
+    /// Never.
+    Never,
+}
+
+/// What is to be sought in files.
 #[derive(Drop)]
 pub struct SearchRequest<'a> {
-    /// The file, or `-` for standard input.
-    pub file: &'a str,
+    /// The files, or patterns of files; `-` is standard input.
+    pub files: Vec<&'a str>,
     /// Which rows match.
     pub filter: &'a str,
-    /// How records are to be read if the file is searched without its index.
+    /// How records are to be read if a file is searched without its index.
     pub reading: Reading<'a>,
-    /// Whether the file is to be searched without its index.
+    /// Whether the files are to be searched without their indexes.
     pub is_whole: bool,
-    /// Whether the file may only have grown since it was indexed.
+    /// Whether the files may only have grown since they were indexed.
     pub may_have_grown: bool,
-    /// What is wanted of them.
+    /// What is wanted of the rows.
     pub wanted: Wanted,
+    /// Whether the names of files are wanted.
+    pub naming: Naming,
     /// Whether to tell what became of the zones.
     pub tells: bool,
 }
+
+/// What is said where a file or the filter is missing.
+const MISSING_WORD: &str = "a search wants FILE .. FILTER, or --where FILTER FILE ..";
 
 /// What the words ask for, or what is wrong with them. The first word is the name of the program.
 pub fn asked_in<'a>(alloc: Global, words: &'a [String]) -> Result<Asked<'a>, Error> {
@@ -129,7 +160,7 @@ fn asked_of<'a>(
     let matches = command.try_get_matches_from_mut(words)?;
     match request_in(alloc, &matches)? {
         Some(asked) => Ok(asked),
-        None => Err(command.error(ErrorKind::MissingSubcommand, "a command is missing")?),
+        None => Err(command.error(ErrorKind::MissingRequiredArgument, MISSING_WORD)?),
     }
 }
 
@@ -139,54 +170,80 @@ fn request_in<'a>(
     matches: &ArgMatches<'a>,
 ) -> Result<Option<Asked<'a>>, AllocError> {
     match matches.subcommand() {
-        Some(("index", matches)) => {
-            let reading = reading_in(alloc, matches)?;
-            Ok(index_in(matches, reading).map(Asked::Index))
-        }
+        Some(("index", matches)) => Ok(index_in(alloc, matches)?.map(Asked::Index)),
         Some(("find", matches)) => {
-            let reading = reading_in(alloc, matches)?;
-            Ok(search_in(matches, reading, rows_wanted(matches)).map(Asked::Search))
+            Ok(search_in(alloc, matches, rows_wanted(matches))?.map(Asked::Search))
         }
         Some(("count", matches)) => {
-            let reading = reading_in(alloc, matches)?;
-            Ok(search_in(matches, reading, Wanted::Count).map(Asked::Search))
+            Ok(search_in(alloc, matches, Wanted::Count)?.map(Asked::Search))
         }
         Some(("show", matches)) => Ok(matches.get_str("file").map(Asked::Show)),
         _ => Ok(None),
     }
 }
 
-/// How a file is to be indexed.
-fn index_in<'a>(matches: &ArgMatches<'a>, reading: Reading<'a>) -> Option<IndexRequest<'a>> {
-    let file = matches.get_str("file")?;
-    let rows = matches.get_one::<u64>("rows")?;
-    let bound_length = matches.get_one::<usize>("bytes")?;
-    Some(IndexRequest {
-        file,
-        reading,
+/// How files are to be indexed.
+fn index_in<'a>(
+    alloc: Global,
+    matches: &ArgMatches<'a>,
+) -> Result<Option<IndexRequest<'a>>, AllocError> {
+    let Some(rows) = matches.get_one::<u64>("rows") else {
+        return Ok(None);
+    };
+    let Some(bound_length) = matches.get_one::<usize>("bytes") else {
+        return Ok(None);
+    };
+    Ok(Some(IndexRequest {
+        files: words_of(alloc, matches, "file")?,
+        reading: reading_in(alloc, matches)?,
         rows,
         bound_length,
         appends: matches.get_flag("append"),
-    })
+    }))
 }
 
 /// What is to be sought.
 fn search_in<'a>(
+    alloc: Global,
     matches: &ArgMatches<'a>,
-    reading: Reading<'a>,
     wanted: Wanted,
-) -> Option<SearchRequest<'a>> {
-    let file = matches.get_str("file")?;
-    let filter = matches.get_str("filter")?;
-    Some(SearchRequest {
-        file,
+) -> Result<Option<SearchRequest<'a>>, AllocError> {
+    let mut files = words_of(alloc, matches, "file")?;
+    let Some(filter) = filter_in(matches, &mut files) else {
+        return Ok(None);
+    };
+    if files.is_empty() {
+        return Ok(None);
+    }
+    Ok(Some(SearchRequest {
+        files,
         filter,
-        reading,
+        reading: reading_in(alloc, matches)?,
         is_whole: matches.get_flag("whole"),
         may_have_grown: matches.get_flag("grown"),
         wanted,
+        naming: naming_in(matches),
         tells: matches.get_flag("tell"),
-    })
+    }))
+}
+
+/// The filter that `--where` gives. Without it the last of the words is the filter, and no file.
+fn filter_in<'a>(matches: &ArgMatches<'a>, words: &mut Vec<&'a str>) -> Option<&'a str> {
+    match matches.get_str("where") {
+        Some(filter) => Some(filter),
+        None => words.pop(),
+    }
+}
+
+/// Whether the names of files are wanted.
+fn naming_in(matches: &ArgMatches<'_>) -> Naming {
+    if matches.get_flag("with-filename") {
+        Naming::Always
+    } else if matches.get_flag("no-filename") {
+        Naming::Never
+    } else {
+        Naming::OfSeveral
+    }
 }
 
 /// Whether rows are wanted with numbers.
@@ -205,8 +262,17 @@ fn reading_in<'a>(alloc: Global, matches: &ArgMatches<'a>) -> Result<Reading<'a>
         delimiter: matches.get_str("delimiter"),
         has_header: matches.get_flag("header"),
         is_lenient: matches.get_flag("lenient"),
-        nulls: Vec::from_slice(alloc, matches.get_strs("null").unwrap_or(&[]))?,
+        nulls: words_of(alloc, matches, "null")?,
     })
+}
+
+/// The words that were given for this name.
+fn words_of<'a>(
+    alloc: Global,
+    matches: &ArgMatches<'a>,
+    name: &str,
+) -> Result<Vec<&'a str>, AllocError> {
+    Vec::from_slice(alloc, matches.get_strs(name).unwrap_or(&[]))
 }
 
 /// The command line.
@@ -226,9 +292,10 @@ fn command<'a>(alloc: Global) -> Result<Command<'a>, AllocError> {
 /// The command that makes an index.
 fn index_command<'a>(alloc: Global) -> Result<Command<'a>, AllocError> {
     let command = Command::new(alloc, "index")
-        .about("Write FILE.zones, the index of a file")
+        .about("Write FILE.zones, the index of a file, for each file")
+        .override_usage(INDEX_USAGE)
         .after_help(ABOUT_COLUMNS)
-        .arg(file_arg(alloc, "The file of records"))?;
+        .arg(files_arg(alloc, "The files of records"))?;
     add_reading(alloc, command)?
         .arg(rows_arg(alloc))?
         .arg(bytes_arg(alloc))?
@@ -241,17 +308,17 @@ fn find_command<'a>(alloc: Global) -> Result<Command<'a>, AllocError> {
         "Write the rows that match, as they are in the file; the status is 1 if there is none";
     let told =
         "Report on standard error how many zones were skipped, copied and searched, and how many bytes were read";
-    search_command(alloc, "find", about, told)?.arg(flag(alloc, "numbers").help(
+    search_command(alloc, "find", FIND_USAGE, about, told)?.arg(flag(alloc, "numbers").help(
         "Write the number of its record and a colon before each row",
     ))
 }
 
 /// The command that counts rows.
 fn count_command<'a>(alloc: Global) -> Result<Command<'a>, AllocError> {
-    let about = "Write how many rows match; the status is 1 if there is none";
+    let about = "Write how many rows match in each file; the status is 1 if there is none";
     let told =
         "Report on standard error how many zones were searched, and how many bytes were read";
-    search_command(alloc, "count", about, told)
+    search_command(alloc, "count", COUNT_USAGE, about, told)
 }
 
 /// The command that shows zones.
@@ -265,14 +332,19 @@ fn show_command<'a>(alloc: Global) -> Result<Command<'a>, AllocError> {
 fn search_command<'a>(
     alloc: Global,
     name: &'a str,
+    usage: &'a str,
     about: &'a str,
     told: &'a str,
 ) -> Result<Command<'a>, AllocError> {
     let command = Command::new(alloc, name)
         .about(about)
+        .override_usage(usage)
         .after_help(ABOUT_FILTERS)
-        .arg(file_arg(alloc, "The file of records, or - for standard input"))?
-        .arg(filter_arg(alloc))?
+        .arg(files_arg(
+            alloc,
+            "The files of records, and - for standard input; the last word is the filter",
+        ))?
+        .arg(where_arg(alloc))?
         .arg(flag(alloc, "tell").help(told))?
         .arg(flag(alloc, "grown").help(
             "Search a file that was only appended to since it was indexed: what is new, too",
@@ -280,7 +352,21 @@ fn search_command<'a>(
         .arg(flag(alloc, "whole").help(
             "Search the whole file without its index, as the next five options do",
         ))?;
-    add_reading(alloc, command)
+    add_naming(alloc, add_reading(alloc, command)?)
+}
+
+/// Adds the words that say whether the names of files are written. The last one counts.
+fn add_naming<'a>(alloc: Global, command: Command<'a>) -> Result<Command<'a>, AllocError> {
+    let always = flag(alloc, "with-filename")
+        .short('H')
+        .help(
+            "Write the name of its file and a colon before each row and each count, as of several files",
+        )
+        .overrides_with("no-filename")?;
+    let never = flag(alloc, "no-filename")
+        .help("Write no names of files")
+        .overrides_with("with-filename")?;
+    command.arg(always)?.arg(never)
 }
 
 /// Adds the words that say how records are to be read.
@@ -302,6 +388,16 @@ fn flag<'a>(alloc: Global, name: &'a str) -> Arg<'a> {
     Arg::new(alloc, name).long(name).action(ArgAction::SetTrue)
 }
 
+/// The files that a command is about. Options may stand between them.
+fn files_arg<'a>(alloc: Global, help: &'a str) -> Arg<'a> {
+    Arg::new(alloc, "file")
+        .value_name("FILE")
+        .num_args(1..)
+        .action(ArgAction::Append)
+        .required(true)
+        .help(help)
+}
+
 /// The file that a command is about.
 fn file_arg<'a>(alloc: Global, help: &'a str) -> Arg<'a> {
     Arg::new(alloc, "file")
@@ -310,12 +406,15 @@ fn file_arg<'a>(alloc: Global, help: &'a str) -> Arg<'a> {
         .help(help)
 }
 
-/// Which rows match.
-fn filter_arg<'a>(alloc: Global) -> Arg<'a> {
-    Arg::new(alloc, "filter")
+/// Which rows match, where all words are files.
+fn where_arg<'a>(alloc: Global) -> Arg<'a> {
+    Arg::new(alloc, "where")
+        .short('e')
+        .long("where")
         .value_name("FILTER")
-        .required(true)
-        .help("Which rows match, as SQL's WHERE: \"city = 'Oslo' and fare between 100 and 200\"")
+        .help(
+            "Which rows match, as SQL's WHERE: \"city = 'Oslo' and fare between 100 and 200\"; then each word is a file",
+        )
 }
 
 /// The columns of records.

@@ -1,15 +1,18 @@
-//! An index is made, or extended.
+//! Indexes are made, or extended.
 
 ghost use Rattle.std.specs.Prelude.{◌⊎◌};
 ghost use Rattle.zone_map.specs.Zones.{GoesOn, Reopens};
 
 use crate::commands::IndexRequest;
+use crate::file_names::files_named;
+use crate::file_searches::Note;
 use crate::files::{at_place, buffered, from_place, open_file, save, stamp_of};
 use crate::grown::{end_of, grown_end};
 use crate::loading::{Loaded, load_there, schema_of};
 use crate::locating::located;
 use crate::preparing::{Prepared, prepare};
-use crate::program_errors::{FileError, ProgramError};
+use crate::program_errors::{About, FAILED, FileError, ProgramError};
+use crate::telling::tell_fault;
 use crate::watching::Watched;
 use csv_columns::{NamedColumn, Numbers, Setup};
 use logical_types::{StorageType, storage_type};
@@ -23,6 +26,9 @@ use zone_index::{Index, Indexed, Zone};
 /// How many bytes a decimal of more than 18 digits is stored in.
 const WIDE_LENGTH: usize = 16;
 
+/// What is said of standard input in the place of a file.
+const NO_FILE: &str = "an index is of a file, and not of standard input";
+
 /// An index that is to have the zones from an offset on.
 #[derive(Drop)]
 struct Unfinished {
@@ -32,40 +38,59 @@ struct Unfinished {
     place: u64,
 }
 
-/// Writes the index of a file.
-pub fn index_file(rt: &HostRuntime, request: &IndexRequest<'_>) -> Result<ExitCode, ProgramError> {
-    if request.file == "-" {
-        return Err(ProgramError::Fixed("an index is of a file, and not of standard input"));
+/// Writes the index of each file.
+pub fn index_files(rt: &HostRuntime, request: &IndexRequest<'_>) -> Result<ExitCode, ProgramError> {
+    let files = files_named(rt, &request.files)?;
+    if let [file] = files.as_slice() {
+        index_file(rt, request, file.as_str(), Note(None))?;
+        return Ok(ExitCode::SUCCESS);
     }
-    let mut file = open_file(rt, request.file)?;
-    let unfinished = begun(rt, request, &mut file)?;
-    finish(rt, request.file, &file, unfinished)?;
-    Ok(ExitCode::SUCCESS)
+    let mut has_failed = false;
+    for file in &files {
+        let name = file.as_str();
+        if let Err(fault) = index_file(rt, request, name, Note(Some(name))) {
+            tell_fault(rt, name, fault)?;
+            has_failed = true;
+        }
+    }
+    Ok(if has_failed {
+        ExitCode::from(FAILED)
+    } else {
+        ExitCode::SUCCESS
+    })
 }
 
-/// The index that a request begins with.
-fn begun(
+/// Writes the index of a file. What is told of it stands behind this.
+fn index_file(
     rt: &HostRuntime,
     request: &IndexRequest<'_>,
-    file: &mut File,
-) -> Result<Unfinished, ProgramError> {
-    if request.appends {
-        extended(rt, request.file, file)
-    } else {
-        made(rt, request, file)
+    name: &str,
+    note: Note<'_>,
+) -> Result<(), ProgramError> {
+    if name == "-" {
+        return Err(ProgramError::fixed(About::File, NO_FILE));
     }
+    let mut file = open_file(rt, name)?;
+    let unfinished = if request.appends {
+        extended(rt, name, &mut file)?
+    } else {
+        made(rt, request, name, note, &file)?
+    };
+    finish(rt, name, note, &file, unfinished)
 }
 
 /// The index of a file, before any zone.
 fn made(
     rt: &HostRuntime,
     request: &IndexRequest<'_>,
+    name: &str,
+    note: Note<'_>,
     file: &File,
 ) -> Result<Unfinished, ProgramError> {
     let mut reader = from_place(rt.alloc(), file, 0)?;
     let prepared = prepare(rt.alloc(), &request.reading, &mut reader)?;
     if request.reading.has_header && prepared.start == 0 {
-        return Err(ProgramError::of_file(rt.alloc(), request.file, FileError::NoHeader));
+        return Err(ProgramError::of_file(rt.alloc(), name, FileError::NoHeader));
     }
     let Prepared {
         setup,
@@ -75,7 +100,7 @@ fn made(
     } = prepared;
     let setup = with_sizes(setup, request);
     if let Some(text) = told {
-        let _ = eprintln!(rt; "columns {text}");
+        let _ = eprintln!(rt; "{note}columns {text}");
     }
     Ok(Unfinished {
         loaded: without_zones(rt.alloc(), setup, start)?,
@@ -171,6 +196,7 @@ fn open_place(zones: &mut Vec<Zone>, zone_rows: u64, end: u64) -> u64
 fn finish(
     rt: &HostRuntime,
     name: &str,
+    note: Note<'_>,
     file: &File,
     unfinished: Unfinished,
 ) -> Result<(), ProgramError> {
@@ -179,7 +205,9 @@ fn finish(
     let (nulls, longer) = add_zones(rt, name, file, &schema, place, &mut loaded)?;
     save(rt, name, loaded.setup.columns.len(), &loaded.index)?;
     if schema.reading.is_lenient() {
-        let _ = eprintln!(rt; "{nulls} words became nulls; {longer} records had fields too many");
+        let _ = eprintln!(rt;
+            "{note}{nulls} words became nulls; {longer} records had fields too many"
+        );
     }
     Ok(())
 }

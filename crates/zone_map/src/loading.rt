@@ -1,11 +1,11 @@
 //! An index is loaded, and a filter read over its columns.
 
 use crate::column_lists::columns_text;
-use crate::commands::SearchRequest;
+use crate::file_searches::FileSearch;
 use crate::files::{index_name, stamp_of};
 use crate::index_files::{IndexError, IndexFile};
 use crate::matching::{in_own_case, nearest_name};
-use crate::program_errors::{BAD_DELIMITER, BadFilter, FileError, ProgramError};
+use crate::program_errors::{About, BAD_DELIMITER, BadFilter, FileError, ProgramError};
 use csv_columns::Setup;
 use filter_sql::{Column, ParseError, parse};
 use record_rows::{Schema, dtype_of};
@@ -109,7 +109,7 @@ fn setup_of(alloc: Global, name: &str, root: &Root) -> Result<Setup, ProgramErro
 pub fn schema_of(alloc: Global, setup: &Setup) -> Result<Schema, ProgramError> {
     match setup.schema(alloc)? {
         Some(schema) => Ok(schema),
-        None => Err(ProgramError::Fixed(BAD_DELIMITER)),
+        None => Err(ProgramError::fixed(About::File, BAD_DELIMITER)),
     }
 }
 
@@ -124,35 +124,35 @@ pub struct Searched {
     pub sought: Sought,
 }
 
-/// The index of the file of a request, if there is one, and what the request seeks.
+/// The index of a file, if there is one, and what is sought in the file.
 ///
 /// It has the statistics of the columns that the filter names. Where the file may have grown it has
 /// all, since the last zone is compared with them.
 pub fn load(
     rt: &HostRuntime,
-    request: &SearchRequest<'_>,
+    search: FileSearch<'_, '_>,
 ) -> Result<Option<Searched>, ProgramError> {
-    let name = index_name(rt.alloc(), request.file)?;
+    let name = index_name(rt.alloc(), search.file)?;
     match open_index(rt, &name)? {
         Some(mut file) => {
-            let searched = searched_from(rt.alloc(), request, &name, &mut file)?;
+            let searched = searched_from(rt.alloc(), search, &name, &mut file)?;
             Ok(Some(searched))
         }
         None => Ok(None),
     }
 }
 
-/// The index that a file of this name is, and what a request seeks.
+/// The index that a file of this name is, and what is sought.
 fn searched_from<R: ReadAt>(
     alloc: Global,
-    request: &SearchRequest<'_>,
+    search: FileSearch<'_, '_>,
     name: &str,
     file: &mut IndexFile<R>,
 ) -> Result<Searched, ProgramError> {
     let (root, start) = root_from(alloc, name, file)?;
     let setup = setup_of(alloc, name, &root)?;
-    let sought = Sought::from_text(alloc, setup, request.filter)?;
-    let wanted = columns_wanted(alloc, request, &sought)?;
+    let sought = Sought::from_text(alloc, setup, search.request.filter)?;
+    let wanted = columns_wanted(alloc, search.request.may_have_grown, &sought)?;
     let index = index_from(alloc, name, file, root, start, &wanted)?;
     Ok(Searched {
         index,
@@ -165,10 +165,10 @@ fn searched_from<R: ReadAt>(
 /// all where the file may have grown.
 fn columns_wanted(
     alloc: Global,
-    request: &SearchRequest<'_>,
+    may_have_grown: bool,
     sought: &Sought,
 ) -> Result<Vec<bool>, AllocError> {
-    let mut wanted = vec![in alloc; request.may_have_grown; sought.setup.columns.len()]?;
+    let mut wanted = vec![in alloc; may_have_grown; sought.setup.columns.len()]?;
     sought.filter.mark_columns(&mut wanted);
     Ok(wanted)
 }
@@ -255,7 +255,23 @@ fn filter_fault(
     columns: &[Column],
     error: ParseError,
 ) -> ProgramError {
-    ProgramError::made(bad_filter(alloc, setup, text, columns, error))
+    ProgramError::made(
+        about_of(error),
+        bad_filter(alloc, setup, text, columns, error),
+    )
+}
+
+/// What the error of a filter is about: the file whose columns do not fit, or the filter's own words.
+fn about_of(error: ParseError) -> About {
+    match error {
+        ParseError::Expected {
+            offset: _,
+            expected: _,
+        }
+        | ParseError::BadText { offset: _ }
+        | ParseError::TooDeep { offset: _ } => About::AllFiles,
+        _ => About::File,
+    }
 }
 
 /// What is said of a filter that is wrong.

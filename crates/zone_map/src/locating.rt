@@ -1,6 +1,6 @@
 //! Where a record stands that has no row.
 
-use crate::program_errors::{BadRecord, ProgramError, RecordPlace, search_fault_text};
+use crate::program_errors::{About, BadRecord, ProgramError, RecordPlace};
 use csv_columns::NamedColumn;
 use std::fs::File;
 use std::io::{self, Read};
@@ -19,14 +19,19 @@ pub fn located(
 ) -> ProgramError {
     match fault {
         SearchError::Refused(refusal) => {
+            let place = record_place(rt, file, refusal.place);
+            let about = match place {
+                RecordPlace::Line { file: _, line: _ } => About::NamedFile,
+                RecordPlace::Byte(_) => About::File,
+            };
             let bad = BadRecord {
-                place: record_place(rt, file, refusal.place),
+                place,
                 columns,
                 cause: &refusal.cause,
             };
-            ProgramError::made(format!(in rt.alloc(); "{bad}"))
+            ProgramError::made(about, format!(in rt.alloc(); "{bad}"))
         }
-        _ => ProgramError::Fixed(search_fault_text(fault)),
+        _ => ProgramError::of_search(fault),
     }
 }
 

@@ -6,10 +6,13 @@
 mod answering;
 mod column_lists;
 mod commands;
+mod file_names;
+mod file_searches;
 mod files;
 mod grown;
 mod index_files;
 mod indexing;
+mod lines;
 mod loading;
 mod locating;
 mod matching;
@@ -22,12 +25,10 @@ mod telling;
 mod watching;
 
 pub use commands::{Asked, asked_in};
+use program_errors::FAILED;
 pub use program_errors::ProgramError;
 use std::process::ExitCode;
 use std::{env, io};
-
-/// The status after an error, which is told on standard error.
-const FAILED: u8 = 2;
 
 /// Does what the command line asks.
 fn main(rt: HostRuntime) -> ExitCode {
@@ -59,7 +60,7 @@ fn words_given(rt: &HostRuntime) -> io::Result<Vec<String>> {
 /// Does what is asked. An error is told on standard error.
 fn answer(rt: &HostRuntime, asked: &Asked<'_>) -> ExitCode {
     let done = match asked {
-        Asked::Index(request) => indexing::index_file(rt, request),
+        Asked::Index(request) => indexing::index_files(rt, request),
         Asked::Search(request) => searching::search(rt, request),
         Asked::Show(file) => showing::show(rt, *file),
     };

@@ -2,7 +2,7 @@
 
 use crate::column_lists::{NameText, columns_in, columns_text};
 use crate::commands::Reading;
-use crate::program_errors::{BAD_DELIMITER, ProgramError};
+use crate::program_errors::{About, BAD_DELIMITER, ProgramError};
 use csv_columns::{
     Guessed, NO_DELIMITER, NamedColumn, Numbers, Setup, guess_columns, is_line, names_others,
     reading_of,
@@ -75,11 +75,11 @@ fn delimiter_in(word: Option<&str>) -> Result<Delimiter, ProgramError> {
         [byte] => *byte,
         b"tab" => b'\t',
         b"none" => NO_DELIMITER,
-        _ => return Err(ProgramError::Fixed(BAD_DELIMITER)),
+        _ => return Err(ProgramError::fixed(About::AllFiles, BAD_DELIMITER)),
     };
     match Delimiter::new(byte) {
         Some(delimiter) => Ok(delimiter),
-        None => Err(ProgramError::Fixed(BAD_DELIMITER)),
+        None => Err(ProgramError::fixed(About::AllFiles, BAD_DELIMITER)),
     }
 }
 
@@ -88,7 +88,7 @@ fn null_words(alloc: Global, words: &[&str]) -> Result<Vec<String>, ProgramError
     let mut nulls = Vec::new(alloc);
     for word in words {
         if !is_line(word) {
-            return Err(ProgramError::Fixed("--null: a word of one line"));
+            return Err(ProgramError::fixed(About::AllFiles, "--null: a word of one line"));
         }
         nulls.push(String::from_str(alloc, word)?)?;
     }

@@ -9,13 +9,36 @@ use std::{io, str};
 use vortex_dtype::Nullability;
 use zone_index::{Cause, EncodingError, SearchError};
 
-/// Why the program stopped: what it says on standard error.
+/// The status after an error, which is told on standard error.
+pub const FAILED: u8 = 2;
+
+/// Why the program stops, or passes over one of several files.
 #[derive(Drop)]
-pub enum ProgramError {
+pub struct ProgramError {
+    /// What it says on standard error.
+    pub text: ErrorText,
+    /// What that is about.
+    pub about: About,
+}
+
+/// What an error says.
+#[derive(Drop)]
+pub enum ErrorText {
     /// A text that is always the same.
     Fixed(&'static str),
     /// A text that was made.
     Made(String),
+}
+
+/// What an error is about.
+#[derive(Clone, Copy, PartialEq, Eq)]
+pub enum About {
+    /// A file, which the text does not name.
+    File,
+    /// A file, which the text names.
+    NamedFile,
+    /// No file: the words of the command line, or the output.
+    AllFiles,
 }
 
 /// What is said if no memory is left.
@@ -26,41 +49,61 @@ pub const BAD_DELIMITER: &str =
     "--delimiter: one byte, and no quote, line feed or carriage return; or tab, or none";
 
 impl ProgramError {
+    /// The error of a text that is always the same.
+    pub fn fixed(about: About, text: &'static str) -> ProgramError {
+        ProgramError {
+            text: ErrorText::Fixed(text),
+            about,
+        }
+    }
+
     /// The error of a text, if there was memory for it.
-    pub fn made(text: Result<String, AllocError>) -> ProgramError {
+    pub fn made(about: About, text: Result<String, AllocError>) -> ProgramError {
         match text {
-            Ok(text) => ProgramError::Made(text),
-            Err(_) => ProgramError::Fixed(NO_MEMORY),
+            Ok(text) => ProgramError {
+                text: ErrorText::Made(text),
+                about,
+            },
+            Err(fault) => ProgramError::from(fault),
         }
     }
 
     /// The error of a file with this name.
     pub fn of_file(alloc: Global, name: &str, fault: FileError) -> ProgramError {
-        ProgramError::made(format!(in alloc; "{name}: {fault}"))
+        ProgramError::made(About::NamedFile, format!(in alloc; "{name}: {fault}"))
+    }
+
+    /// The error of a search, without the offset of a record that has no row.
+    pub fn of_search(fault: &SearchError) -> ProgramError {
+        let about = match fault {
+            SearchError::Write => About::AllFiles,
+            _ => About::File,
+        };
+        ProgramError::fixed(about, search_fault_text(fault))
     }
 }
 
 impl From<AllocError> for ProgramError {
     fn from(_error: AllocError) -> ProgramError {
-        ProgramError::Fixed(NO_MEMORY)
+        ProgramError::fixed(About::File, NO_MEMORY)
     }
 }
 
 impl<T: Drop> From<AllocFailed<T>> for ProgramError {
     fn from(_error: AllocFailed<T>) -> ProgramError {
-        ProgramError::Fixed(NO_MEMORY)
+        ProgramError::fixed(About::File, NO_MEMORY)
     }
 }
 
 /// Without the offset of a record that has no row.
 impl From<SearchError> for ProgramError {
     fn from(fault: SearchError) -> ProgramError {
-        ProgramError::Fixed(search_fault_text(&fault))
+        ProgramError::of_search(&fault)
     }
 }
 
 /// What an error of a search says.
-pub fn search_fault_text(fault: &SearchError) -> &'static str {
+fn search_fault_text(fault: &SearchError) -> &'static str {
     match fault {
         SearchError::Read => "read failed",
         SearchError::Write => "write failed",
@@ -74,10 +117,39 @@ pub fn search_fault_text(fault: &SearchError) -> &'static str {
 /// The text.
 impl Display for ProgramError {
     fn fmt<W: Write>(&self, f: &mut Formatter<W>) -> fmt::Result {
+        f.write_str(self.text.as_str())
+    }
+}
+
+impl ErrorText {
+    /// The text.
+    fn as_str(&self) -> &str {
         match self {
-            ProgramError::Fixed(text) => f.write_str(text),
-            ProgramError::Made(text) => f.write_str(text),
+            ErrorText::Fixed(text) => text,
+            ErrorText::Made(text) => text.as_str(),
         }
+    }
+}
+
+/// An error with one of several files.
+#[derive(Clone, Copy)]
+pub struct NamedFault<'a> {
+    /// The name of the file.
+    pub file: &'a str,
+    /// The error.
+    pub fault: &'a ProgramError,
+}
+
+/// The text after the name of the file, if it does not begin with it; after a line with the name, if the
+/// text has several lines.
+impl Display for NamedFault<'_> {
+    fn fmt<W: Write>(&self, f: &mut Formatter<W>) -> fmt::Result {
+        let text = self.fault.text.as_str();
+        if self.fault.about == About::File {
+            let end = if text.contains('\n') { "\n" } else { " " };
+            write!(f, "{}:{end}", self.file)?;
+        }
+        f.write_str(text)
     }
 }
 

@@ -1,7 +1,10 @@
 //! Files without an index and standard input are searched whole.
 
+ghost use Rattle.std.specs.Prelude.{◌≡◌};
+
 use crate::answering::{count_stream, find_stream, first_row};
-use crate::commands::{SearchRequest, Wanted};
+use crate::file_searches::{FileSearch, Form};
+use crate::lines::{Front, KnownFront, LineSink};
 use crate::loading::Sought;
 use crate::locating::located;
 use crate::preparing::{Prepared, prepare};
@@ -10,14 +13,14 @@ use csv_columns::{NO_DELIMITER, NamedColumn, Numbers, Setup};
 use record_rows::{ColumnType, Kind};
 use std::alloc::Global;
 use std::io::{BufRead, BufWriter, Read, Stdout};
+use std::marker::Brand;
 use vortex_dtype::Nullability;
-use zone_index::{NumberedSink, PlainSink, SearchError, Sink};
+use zone_index::{Matcher, NumberedSink, PlainSink, SearchError, Sink};
 
 /// Answers a search of a whole stream, and says how many rows match.
 pub fn search_stream<B: BufRead>(
     rt: &HostRuntime,
-    request: &SearchRequest<'_>,
-    file: Option<&str>,
+    search: FileSearch<'_, '_>,
     reader: &mut B,
 ) -> Result<u64, ProgramError> {
     let Prepared {
@@ -25,61 +28,75 @@ pub fn search_stream<B: BufRead>(
         start,
         first,
         told,
-    } = prepare(rt.alloc(), &request.reading, reader)?;
+    } = prepare(rt.alloc(), &search.request.reading, reader)?;
     let mut rest = first.as_slice().chain(reader);
-    let sought = sought_in(rt, request, setup, &told)?;
-    match answer_stream(rt, request.wanted, &sought, start, &mut rest) {
+    let sought = sought_in(rt, search, setup, &told)?;
+    match answer_stream(rt, search, &sought.matcher(), start, &mut rest) {
         Ok(found) => Ok(found),
-        Err(fault) => Err(located(rt, file, &sought.setup.columns, &fault)),
+        Err(fault) => Err(located(rt, search.path(), &sought.setup.columns, &fault)),
     }
 }
 
 /// Answers a search of all that a stream has left, on standard output. The header has so many
 /// bytes.
-fn answer_stream<B: BufRead>(
+fn answer_stream<M: Matcher, B: BufRead>(
     rt: &HostRuntime,
-    wanted: Wanted,
-    sought: &Sought,
+    search: FileSearch<'_, '_>,
+    matcher: &M,
     start: u64,
     reader: &mut B,
 ) -> Result<u64, SearchError> {
     let alloc = rt.alloc();
-    match wanted {
-        Wanted::Rows => write_stream(
+    match search.form() {
+        Form::Count => count_stream(alloc, start, matcher, reader),
+        Form::Rows => write_stream(
             alloc,
-            sought,
+            matcher,
             start,
             reader,
             PlainSink::new(alloc, output(rt)?),
         ),
-        Wanted::NumberedRows => {
+        Form::NumberedRows => {
             write_stream(
                 alloc,
-                sought,
+                matcher,
                 start,
                 reader,
                 NumberedSink::new(alloc, output(rt)?),
             )
         }
-        Wanted::Count => count_stream(alloc, start, &sought.matcher(), reader),
+        Form::Lines { has_number } => {
+            let front = search.front(alloc, has_number)?;
+            write_lines::<Brand, M, B>(alloc, matcher, start, reader, output(rt)?, front)
+        }
     }
 }
 
-/// Gives a sink the records of a stream that match, and says how many they are.
-fn write_stream<B: BufRead, S: Sink + Drop>(
+/// Writes the records of a stream that match as lines, each behind a front, and says how many they are.
+fn write_lines<K: KnownFront, M: Matcher, B: BufRead>(
     alloc: Global,
-    sought: &Sought,
+    matcher: &M,
+    start: u64,
+    reader: &mut B,
+    writer: BufWriter<Stdout>,
+    front: Front,
+) -> Result<u64, SearchError>
+    requires text { front.text.items ≡ K.text }
+    requires number { front.has_number ≡ K.has_number }
+{
+    let sink = LineSink::<K, BufWriter<Stdout>>::new(alloc, writer, front);
+    write_stream(alloc, matcher, start, reader, sink)
+}
+
+/// Gives a sink the records of a stream that match, and says how many they are.
+fn write_stream<M: Matcher, B: BufRead, S: Sink + Drop>(
+    alloc: Global,
+    matcher: &M,
     start: u64,
     reader: &mut B,
     mut sink: S,
 ) -> Result<u64, SearchError> {
-    let found = find_stream(
-        alloc,
-        first_row(start),
-        &sought.matcher(),
-        reader,
-        &mut sink,
-    );
+    let found = find_stream(alloc, first_row(start), matcher, reader, &mut sink);
     flushed(found, sink.flush())
 }
 
@@ -87,20 +104,21 @@ fn write_stream<B: BufRead, S: Sink + Drop>(
 /// columns, it may be one of whole lines, by the name `line`.
 fn sought_in(
     rt: &HostRuntime,
-    request: &SearchRequest<'_>,
+    search: FileSearch<'_, '_>,
     setup: Setup,
     told: &Option<String>,
 ) -> Result<Sought, ProgramError> {
-    match Sought::from_text(rt.alloc(), setup, request.filter) {
+    let filter = search.request.filter;
+    match Sought::from_text(rt.alloc(), setup, filter) {
         Ok(sought) => {
-            tell_columns(rt, request, told);
+            tell_columns(rt, search, told);
             Ok(sought)
         }
         Err(fault) => {
-            if request.reading.is_said() {
+            if search.request.reading.is_said() {
                 return Err(fault);
             }
-            match sought_in_lines(rt.alloc(), request.filter) {
+            match sought_in_lines(rt.alloc(), filter) {
                 Ok(sought) => Ok(sought),
                 Err(_) => Err(fault),
             }
@@ -115,10 +133,11 @@ fn sought_in_lines(alloc: Global, filter: &str) -> Result<Sought, ProgramError> 
 }
 
 /// Tells on standard error how records are read, if that is wanted and was guessed.
-fn tell_columns(rt: &HostRuntime, request: &SearchRequest<'_>, told: &Option<String>) {
+fn tell_columns(rt: &HostRuntime, search: FileSearch<'_, '_>, told: &Option<String>) {
     if let Some(text) = told {
-        if request.tells {
-            let _ = eprintln!(rt; "columns {text}");
+        if search.request.tells {
+            let note = search.note();
+            let _ = eprintln!(rt; "{note}columns {text}");
         }
     }
 }

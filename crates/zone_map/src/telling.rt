@@ -1,9 +1,24 @@
-//! What a search by an index did is told.
+//! What a search by an index did is told, and what is wrong with one of several files.
 
 use crate::answering::Found;
 use crate::loading::Searched;
+use crate::program_errors::{About, NamedFault, ProgramError};
 use std::fmt::{self, Display, Formatter, Write};
 use zone_index::{Asked, Tally, Zone};
+
+/// Tells what is wrong with one of several files, so that the others can be answered. An error that is about
+/// all of them is passed on.
+pub fn tell_fault(rt: &HostRuntime, file: &str, fault: ProgramError) -> Result<(), ProgramError> {
+    if fault.about == About::AllFiles {
+        return Err(fault);
+    }
+    let told = NamedFault {
+        file,
+        fault: &fault,
+    };
+    let _ = eprintln!(rt; "{told}");
+    Ok(())
+}
 
 /// What a search by an index did.
 #[derive(Clone, Copy)]

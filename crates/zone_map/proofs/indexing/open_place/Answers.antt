@@ -1,5 +1,5 @@
 -- The last zone is taken away.
-use Rattle.std.proofs.Common.{◌≡◌, ◌<◌, ◌-◌, ◌⊎◌, List, Some, inl, length, rules, subst, sym}
+use Rattle.std.proofs.Common.{◌≡◌, ◌<◌, ◌-◌, List, Some, inl, length, rules, subst, sym}
 use Rattle.std.specs.Prelude.{slice_get, vec_len}
 use Rattle.zone_index.specs.declared.zones.Zone.{Zone}
 use Rattle.zone_map.proofs.ZoneEnds.{has_last, reopened, some_listed}
