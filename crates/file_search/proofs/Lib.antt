@@ -1,0 +1,4 @@
+pub mod Columns
+pub mod OwnNames
+pub mod PlanLaws
+pub mod SoughtSteps

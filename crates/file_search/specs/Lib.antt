@@ -1,0 +1,4 @@
+pub mod Laws
+pub mod Plans
+pub mod Sought
+pub mod Words
