@@ -53,7 +53,8 @@ enum {
     DOQALLIN_BAD_FILTER = 11,   /* words are no filter */
     DOQALLIN_WRONG_LENGTH = 12, /* numbers of columns, of rows or of options differ that are to be equal */
     DOQALLIN_BAD_OPTIONS = 13,  /* a byte of options is above 3 */
-    DOQALLIN_NOT_A_VALUE = 14   /* a number is of no value of the column's logical type */
+    DOQALLIN_NOT_A_VALUE = 14,  /* a number is of no value of the column's logical type */
+    DOQALLIN_REFUSED = 15       /* a record is no row of the columns */
 };
 
 /* The integer types. The 64 bits of a number of a signed type are in two's complement: (uint64_t)(int64_t)-5. */
@@ -345,8 +346,8 @@ enum {
     DOQALLIN_EXPECTED_COLUMN,    /* a column */
     DOQALLIN_EXPECTED_OPERATOR,  /* an operator */
     DOQALLIN_EXPECTED_LITERAL,   /* a literal */
-    DOQALLIN_EXPECTED_PREFIX,    /* a string that ends in its only wildcard, % */
-    DOQALLIN_EXPECTED_BACKSLASH, /* a string of one backslash */
+    DOQALLIN_EXPECTED_PATTERN,   /* a pattern that its escape does not end */
+    DOQALLIN_EXPECTED_ESCAPE,    /* a string of one character */
     DOQALLIN_EXPECTED_NULL,      /* null */
     DOQALLIN_EXPECTED_AND,       /* and */
     DOQALLIN_EXPECTED_OPENING,   /* ( */
@@ -415,6 +416,162 @@ uint32_t doqallin_filter_outcomes(const uint8_t *filter, size_t filter_length, c
 uint32_t doqallin_filter_mask(const uint8_t *filter, size_t filter_length, const struct doqallin_column *columns,
                               size_t column_count, size_t row_count, size_t depth, uint8_t *buffer, size_t buffer_length,
                               struct doqallin_fault *fault);
+
+/* Searches in CSV files (docs/SEARCHES.md). Nothing is opened by the library: the caller reads bytes of the file and of its index,
+ * which `zone_map index` writes, as it likes. First it reads the root of the index, then the blocks that a filter needs, then the
+ * ranges of the file that a plan names, and searches what it read. Words of filters are as those of doqallin_prepare_filter, and so
+ * is `depth`; and a name without quotes that no column has exactly is that of the one that has it in another case.
+ *
+ * A setup is a text in UTF-8 that says how records are read. Each line ends with a line feed: first `null WORD` for each word that
+ * is a null; then four numbers with a blank between two, the delimiter's byte (255: each line is one field), 1 if records are read
+ * leniently and else 0, how many bytes a bound has at most, and how many records a zone has (the last two may be 0); then of each
+ * column its kind, as --columns has it without blanks inside, a blank, and its name. So `44 0 0 0`, `i64 id`, `utf8? first name`. */
+
+/* How many bytes of an index say how long its root is. */
+#define DOQALLIN_INDEX_HEAD 16
+
+/* So many bytes of a file from an offset on. */
+struct doqallin_byte_range {
+    uint64_t place;
+    uint64_t length;
+};
+
+/* What the root of an index says: how long the file was, when it changed last (nanoseconds since 1970), the offset of its first
+ * record, and how many zones and blocks there are. Each column has a block. */
+struct doqallin_index_parts {
+    uint64_t file_length;
+    uint64_t changed;
+    uint64_t start;
+    size_t zone_count;
+    size_t block_count;
+};
+
+/* What is wrong with what a search was given, or with a record.
+ * BAD_BYTES: `column` says of what, one of the DOQALLIN_PART_.., and `reason` what, one of the DOQALLIN_INDEX_.., of a setup 0.
+ * NOT_UTF8: the words are not. All three are 0.
+ * BAD_FILTER: `place` is the byte of the words, and `reason` a code as of doqallin_mistake.
+ * BAD_OFFSETS: `place` is the first zone to be read that ends at 2^64 or behind it.
+ * REFUSED: `place` is the offset in the file at which the record begins, `reason` one of the DOQALLIN_REFUSED_.., and `column` the
+ * column, from 0, that does not take its field. */
+struct doqallin_search_fault {
+    uint64_t place;
+    uint64_t column;
+    uint32_t reason;
+};
+enum { DOQALLIN_PART_ROOT, DOQALLIN_PART_BLOCKS, DOQALLIN_PART_SETUP };
+enum {
+    DOQALLIN_INDEX_SHORT,   /* a field passes the end */
+    DOQALLIN_INDEX_MAGIC,   /* the bytes are of no index */
+    DOQALLIN_INDEX_VERSION, /* they are of an index of another version */
+    DOQALLIN_INDEX_DAMAGED, /* the root or a block is not what was written */
+    DOQALLIN_INDEX_TRAILING /* bytes stand behind the last field */
+};
+enum {
+    DOQALLIN_REFUSED_FIELD,       /* a column does not take its field */
+    DOQALLIN_REFUSED_FIELD_COUNT, /* there are more fields than columns, or fewer */
+    DOQALLIN_REFUSED_LONE_RETURN  /* a carriage return ends a row inside of the record */
+};
+
+/* How many bytes the root of an index has, by its first DOQALLIN_INDEX_HEAD bytes. What follows them is not looked at. Takes no
+ * memory.
+ * GIVEN: *count is how many, at most 2^64 - 1.
+ * BAD_BYTES: there are fewer, or they are not of an index of this version. */
+uint32_t doqallin_index_root_length(const uint8_t *head, size_t head_length, uint64_t *count, struct doqallin_search_fault *fault);
+
+/* What a root says, and its setup. What follows the root is not looked at.
+ * GIVEN: the setup has the first *count bytes of the buffer; those after it are as they were.
+ * BUFFER_TOO_SMALL: *count is how many bytes it has, above buffer_length. *parts is written all the same.
+ * BAD_BYTES: the bytes do not begin with a root.
+ * NO_MEMORY: may come in place of each other status. */
+uint32_t doqallin_index_root(const uint8_t *root, size_t root_length, uint8_t *buffer, size_t buffer_length, size_t *count,
+                             struct doqallin_index_parts *parts, struct doqallin_search_fault *fault);
+
+/* Which pieces of an index the words of a filter need beside its root: the blocks of the columns that they name. None is empty, and
+ * none begins where the one before it ends. So many ranges as there are blocks suffice.
+ * GIVEN: the first *count of `ranges`; those after them are as they were.
+ * BUFFER_TOO_SMALL: *count, which is all that is written, is how many there are.
+ * BAD_BYTES, NOT_UTF8, BAD_FILTER: of the root, the words, the setup and the filter the first in this order that is wrong.
+ * NO_MEMORY: may come in place of each but NOT_UTF8. */
+uint32_t doqallin_search_blocks(const uint8_t *root, size_t root_length, const uint8_t *words, size_t words_length, size_t depth,
+                                struct doqallin_byte_range *ranges, size_t ranges_length, size_t *count,
+                                struct doqallin_search_fault *fault);
+
+/* A zone: where it begins, how many bytes, records and rows it has (an empty line is a record without a row), how many records
+ * come before it, what is to be done with it, and what its statistics decide. */
+struct doqallin_zone {
+    uint64_t place;
+    uint64_t length;
+    uint64_t records;
+    uint64_t rows;
+    uint64_t number;
+    uint8_t way;
+    uint8_t decision;
+};
+enum { DOQALLIN_WAY_SKIP, DOQALLIN_WAY_WHOLE, DOQALLIN_WAY_SEARCH };     /* no record matches; each does; it is to be searched */
+enum { DOQALLIN_NONE_MATCH, DOQALLIN_ALL_MATCH, DOQALLIN_UNKNOWN };      /* no row matches; each does; nothing is decided */
+
+/* How many zones and ranges a plan has. */
+struct doqallin_plan_lengths {
+    size_t zones;
+    size_t ranges;
+};
+
+/* What is to be done with each zone in a search for the words, and what is to be read of the file. `blocks` are the bytes of the
+ * ranges that doqallin_search_blocks gives for the same words, one behind another. The ranges cover, in order, exactly the zones
+ * that are not skipped; with is_count those of which the statistics decide nothing: the others have as many records that match as
+ * rows, or none. None is empty, and none begins where the one before it ends. So many of each as there are zones suffice.
+ * GIVEN: the first lengths->zones of `zones` and lengths->ranges of `ranges`; those after them are as they were.
+ * BUFFER_TOO_SMALL: *lengths, which is all that is written, says how many there are of each.
+ * BAD_BYTES, NOT_UTF8, BAD_FILTER: as from doqallin_search_blocks; and then of the blocks.
+ * BAD_OFFSETS: a zone that is to be read ends too far.
+ * NO_MEMORY: may come in place of each but NOT_UTF8. */
+uint32_t doqallin_search_plan(const uint8_t *root, size_t root_length, const uint8_t *blocks, size_t blocks_length,
+                              const uint8_t *words, size_t words_length, size_t depth, bool is_count,
+                              struct doqallin_zone *zones, size_t zones_length, struct doqallin_byte_range *ranges,
+                              size_t ranges_length, struct doqallin_plan_lengths *lengths, struct doqallin_search_fault *fault);
+
+/* A record that matches: the offset of its first byte in the file, how many bytes it has with its line end, and its number. */
+struct doqallin_found {
+    uint64_t place;
+    uint64_t length;
+    uint64_t number;
+};
+
+/* Where a record begins: its offset in the file, and its number. */
+struct doqallin_position {
+    uint64_t place;
+    uint64_t number;
+};
+
+/* The records of a text that match. The text begins with a record, which has the place and the number of *position. `is_end` says
+ * that a zone or the file ends with it. If not, its last record is left, since it may be cut; the others are the next ones of the
+ * file, whatever follows. What is found zone by zone is what is found in the whole file.
+ * GIVEN: the first *count of `found` are the records that match, in order; those after them are as they were. *position is where
+ * the first record begins that was not judged: behind the text, if all were. Else there is no room for it in `found`, and it
+ * matches; or it is the last one, and not is_end. Give the text from there again, with more room or with what follows.
+ * REFUSED: this is the first record that has fields that are no row. `found` may have any.
+ * BAD_BYTES, NOT_UTF8, BAD_FILTER: of the words, the setup and the filter, the first that is wrong.
+ * NO_MEMORY: may come in place of each but NOT_UTF8. Memory is asked for the filter and a row, and none for each record found.
+ * Under each status but GIVEN, *count and *position are as they were. */
+uint32_t doqallin_search_records(const uint8_t *setup, size_t setup_length, const uint8_t *words, size_t words_length, size_t depth,
+                                 const uint8_t *text, size_t text_length, bool is_end, struct doqallin_position *position,
+                                 struct doqallin_found *found, size_t found_length, size_t *count,
+                                 struct doqallin_search_fault *fault);
+
+/* A setup for a file without an index, whose columns are guessed from its first records. `text` is how the file begins, or all
+ * of it if is_all; else its last record is not looked at, since it may be cut. At most a thousand records are. `setup` is a
+ * setup's text with the delimiter, the words that are nulls, and the columns whose kinds are known, perhaps none: "44 0 0 0\n".
+ * With has_header the first record has the names of the columns, and a byte order mark in front of them is no part of a name.
+ * All columns are guessed if none is given, and the others if the header names each that is given and more; else the
+ * columns stay. Those that are given stay as they are, and those that are guessed take nulls. All else of the setup stays.
+ * GIVEN: the setup has the first *count bytes of the buffer, and *start is how many bytes the header has (0 without one, or if
+ * the text has no record that is certain to be whole). BUFFER_TOO_SMALL: *count is how many bytes the setup has; *start is
+ * written, too.
+ * BAD_BYTES: `setup` is none of this library, or no file can have its delimiter (a line feed, a carriage return or a quote);
+ * `column` is DOQALLIN_PART_SETUP. NO_MEMORY: *fault is not written. */
+uint32_t doqallin_guess_setup(const uint8_t *setup, size_t setup_length, const uint8_t *text, size_t text_length, bool has_header,
+                              bool is_all, uint8_t *buffer, size_t buffer_length, size_t *count, uint64_t *start,
+                              struct doqallin_search_fault *fault);
 
 /* Nearly any call of the library, by a line of text. In the library doqallin_call.
  * The line has the call's name and what it is given, as the worked cases in crates/scalar_cases/stdin: `cast i32:1000i32 i16`

@@ -25,16 +25,16 @@ right_of : EncodingsStayRight → (kind : Kind) (c : Column) (n : ℕ) (bytes : 
 right_of law kind c n bytes is h = subst (λ t. AreRightBytes t bytes (cells_of_column c)) (ap type_at is) (law.written c n bytes h)
 
 pub both_right : EncodingsStayRight → (kind : Kind) (first second : Column) (n : ℕ) (one other both : List ℕ) (s : Known) → kind_in first ≡ Some kind → kind_in second ≡ Some kind
-    → IsColumnEncoding first n one → IsColumnEncoding second n other → IsMergedEncoding (type_of_kind kind) one other both → IsEncodingAs (type_of_kind kind) both s
+    → IsColumnEncoding first n one → IsColumnEncoding second n other → IsMergedEncoding kind one other both → IsEncodingAs (type_of_kind kind) both s
     → AreRight s (cells_of_column first ++ cells_of_column second)
 both_right law kind first second n one other both s f g h k merged is =
     let t : TypeTree = type_of_kind kind in
     law.read t both (cells_of_column first ++ cells_of_column second) s
-    (law.merged t one other both (cells_of_column first) (cells_of_column second) (right_of law kind first n one f h) (right_of law kind second n other g k) merged) is
+    (law.merged kind one other both (cells_of_column first) (cells_of_column second) (right_of law kind first n one f h) (right_of law kind second n other g k) merged) is
 
 -- what is merged of slices is merged of their bytes
-pub merged_of : (t : TypeTree) (one other x y both : List ℕ) → x ≡ one → y ≡ other → IsMergedEncoding t x y both → IsMergedEncoding t one other both
-merged_of t one other x y both e f h = subst (λ bs. IsMergedEncoding t bs other both) e (subst (λ bs. IsMergedEncoding t x bs both) f h)
+pub merged_of : (kind : Kind) (one other x y both : List ℕ) → x ≡ one → y ≡ other → IsMergedEncoding kind x y both → IsMergedEncoding kind one other both
+merged_of kind one other x y both e f h = subst (λ bs. IsMergedEncoding kind bs other both) e (subst (λ bs. IsMergedEncoding kind x bs both) f h)
 
 pub skipped_no : (b : Bool) → not b ≡ true → b ≡ false
 skipped_no true e = absurd cc

@@ -30,6 +30,7 @@ mod numbers;
 pub mod orders;
 pub mod patterns;
 pub mod places;
+pub mod plans;
 pub mod prepared;
 #[cfg(test)]
 mod rare_calls;

@@ -15,7 +15,7 @@ use Rattle.filter_encoding.specs.declared.error.FilterEncodingError.TheVariants.
 use Rattle.filter_encoding.specs.declared.prepared.PreparedFilter.{PreparedFilter}
 use Rattle.vortex_dtype.specs.TypeOf.{type_of}
 use Rattle.vortex_dtype.specs.declared.types.DType.{DType}
-use Rattle.vortex_filter.specs.Formula.{Formula, constant, comparison, null_test, membership, range, prefix_test, both, either, negation, formula}
+use Rattle.vortex_filter.specs.Formula.{Formula, constant, comparison, null_test, membership, range, prefix_test, pattern_test, both, either, negation, formula}
 use Rattle.vortex_c.specs.FilterLaws.{AreOfWords, FiltersAreOfWords}
 use Rattle.vortex_c.specs.FilterSql.{IsPreparedFrom, encoding_depth, prepared_of}
 use Rattle.vortex_c.specs.declared.sql.NamedKind.{NamedKind}
@@ -61,6 +61,7 @@ deeper (null_test k) n m l h = h
 deeper (membership k xs) n m l h = h
 deeper (range k x y) n m l h = h
 deeper (prefix_test k x) n m l h = h
+deeper (pattern_test k case parts) n m l h = h
 deeper (both f g) zero m l h = absurd h
 deeper (both f g) (suc n) zero l h = absurd (omega arith)
 deeper (both f g) (suc n) (suc m) l h = (deeper f n m (omega arith) h.0, deeper g n m (omega arith) h.1)

@@ -11,6 +11,7 @@ use Rattle.arrow_columns.specs.Integers.{width_of_item}
 use Rattle.arrow_columns.specs.declared.formats.DecimalWidth.TheVariants.{Bits32, Bits64, Bits128}
 use Rattle.arrow_columns.specs.declared.formats.Format.{Format}
 use Rattle.arrow_columns.specs.declared.formats.Format.TheVariants as formats
+use Rattle.column_cells.specs.Types.{type_of_kind}
 use Rattle.logical_types.specs.declared.times.TimeUnit.TheVariants.{Seconds, Milliseconds, Microseconds, Nanoseconds}
 use Rattle.named_statistics.specs.Heads.{head_of}
 use Rattle.named_statistics.specs.Named.{named_encoding}
@@ -79,9 +80,10 @@ both_short s u =
 named_length : (t : TypeTree) (s : Known) → length (named_encoding t s) ≡ length (head_of t) + length (encoding s)
 named_length t s = length-append (head_of t) (encoding s)
 
-pub merged_short : (t : TypeTree) (one other bytes : List ℕ) → IsMergedEncoding t one other bytes → length bytes ≤ length one + length other
-merged_short t one other bytes h =
-    omega (arith, ap length h.both.is, ap length h.is_first.is, ap length h.is_second.is, both_short h.first h.second, named_length t (merged h.first h.second), named_length t h.first, named_length t h.second)
+pub merged_short : (kind : Kind) (one other bytes : List ℕ) → IsMergedEncoding kind one other bytes → length bytes ≤ length one + length other
+merged_short kind one other bytes h =
+    let t : TypeTree = type_of_kind kind in
+    omega (arith, ap length h.both.is_encoding.is, ap length h.is_first.is_encoding.is, ap length h.is_second.is_encoding.is, both_short h.first h.second, named_length t (merged h.first h.second), named_length t h.first, named_length t h.second)
 
 -- ---- the bytes of a bound
 

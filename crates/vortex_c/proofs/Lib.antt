@@ -13,5 +13,7 @@ mod NestSteps
 mod PartSteps
 mod SqlSteps
 mod StartSteps
+mod TokenTexts
 mod Truncations
 mod ZoneAnswers
+mod ZoneSteps

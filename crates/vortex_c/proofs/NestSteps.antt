@@ -1,26 +1,33 @@
 -- How deep the encoding of a filter nests: a filter that words are has one, at the depth that goes with theirs.
-use Rattle.std.proofs.Common.{◌≡◌, ◌∙◌, ℕ, zero, suc, ◌^◌, ◌<◌, ◌≤◌, Bool, true, false, List, [], ◌∷◌, ◌++◌, length, Option, Some, None, arith, ap, subst, sym, length-append, length-drop}
+use Rattle.std.proofs.Common.{◌≡◌, ◌∙◌, ℕ, zero, suc, ◌^◌, ◌<◌, ◌≤◌, Bool, true, false, List, [], ◌∷◌, ◌++◌, length, Option, Some, None, IsUtf8, chars, encode_utf8_all, arith, ap, refl, subst, sym, length-append, length-drop}
 use Rattle.std.specs.Char.{is_ascii_whitespace}
 use Rattle.std.specs.List.{AllByRecursion, prefix_len}
 use Rattle.std.specs.Option.{option_map}
 use Rattle.std.specs.Prelude.{option_and_then, slice_get}
+use Rattle.std.proofs.lemmas.Bool.{false≢true}
 use Rattle.std.proofs.lemmas.List.{length-map}
 use Rattle.std.proofs.lemmas.Option.{slice_get-map, slice_get_within}
 use Rattle.column_cells.specs.Types.{type_at}
-use Rattle.vortex_dtype.specs.TypeTree.{TypeTree}
+use Rattle.like_patterns.specs.declared.case.Case.{Case}
+use Rattle.like_patterns.specs.declared.case.Case.TheVariants.{Insensitive, Sensitive}
+use Rattle.like_patterns.specs.Patterns.{Part}
+use Rattle.like_patterns.specs.Texts.{pattern_of}
+use Rattle.vortex_dtype.specs.Parts.{is_utf8_type}
+use Rattle.vortex_dtype.specs.TypeTree.{TypeTree, utf8_type}
 use Rattle.vortex_cells.specs.Cells.{Cell}
 use Rattle.vortex_filter.specs.declared.operator.CompareOperator.{CompareOperator}
 use Rattle.vortex_filter.specs.declared.operator.CompareOperator.TheVariants.{Eq, NotEq, Gt, Gte, Lt, Lte}
-use Rattle.vortex_filter.specs.Formula.{both, comparison, constant, either, Formula, membership, negation, null_test, prefix_test, range}
+use Rattle.vortex_filter.specs.Formula.{both, comparison, constant, either, Formula, membership, negation, null_test, pattern_test, prefix_test, range}
 use Rattle.vortex_filter.specs.CheckSteps.{holds_strings}
-use Rattle.vortex_filter.specs.Literals.{LiteralTree, position_of, text_literal}
+use Rattle.vortex_filter.specs.Literals.{LiteralTree, position_of, text_cell, text_literal}
 use Rattle.vortex_filter.specs.Operators.{holds}
 use Rattle.vortex_filter.specs.Positions.{cells_of, comparison_above, comparison_of, exactly, for_values, just_above, lacking, member_among, member_of, PositionTree, prefix_of, range_of}
 use Rattle.filter_encoding.specs.Encoding.{CanBeWritten, IsPlain, IsPlainCell, Nests}
 use Rattle.filter_encoding.specs.Lists.{AreListed, Fits}
+use Rattle.filter_encoding.specs.Patterns.{IsCase, IsPart}
 use Rattle.filter_sql.specs.ColumnNames.{column_named, column_there, ColumnTree, named_place, or_numbered, typed_place}
-use Rattle.filter_sql.specs.Grammar.{and_filter, AreLiterals, bare_test, between_literals, compares, group, in_literals, in_nothing, is_not_null, is_null, IsCondition, IsFilter, IsPredicate, IsTest, like_escaped, like_pattern, more_literals, not_filter, not_test, on_column, one_conjunction, one_literal, one_operand, or_filter, predicate, prefix_call, says_false, says_null, says_true}
-use Rattle.filter_sql.specs.Literals.{begun, Condition, formula_in, missing, positions_of}
+use Rattle.filter_sql.specs.Grammar.{and_filter, AreLiterals, bare_test, between_literals, compares, group, in_literals, ilike_pattern, in_nothing, is_not_null, is_null, IsCondition, IsFilter, IsPredicate, IsTest, like_pattern, more_literals, not_filter, not_test, on_column, one_conjunction, one_literal, one_operand, or_filter, predicate, prefix_call, says_false, says_null, says_true}
+use Rattle.filter_sql.specs.Literals.{alike, begun, Condition, formula_in, like_test, missing, positions_of, prefix_asked, prefix_or}
 use Rattle.filter_sql.specs.Parsing.{IsSqlWithin, tokens_in, types_of}
 use Rattle.filter_sql.specs.Texts.{AreItemsOf, Item, Leads, trimmed}
 use Rattle.filter_sql.specs.Tokens.{closing, comma, TokenTree}
@@ -31,12 +38,14 @@ use Rattle.filter_sql.proofs.Taken.{token_shorter}
 use Rattle.vortex_filter.proofs.LiteralTypes.{TypesSay, WordsSay}
 use Rattle.vortex_c.proofs.KindTypes.{plain-column}
 use Rattle.vortex_c.proofs.LogicalLiterals.{AreSaid, IsPlainSaid, plain-said}
+use Rattle.vortex_c.proofs.TokenTexts.{IsStringIn, parts-read, strings-read}
 use Rattle.vortex_c.specs.FilterSql.{encoding_depth, kind_of_named, prepared_of, tree_of_kind, trees_of_kinds, types_of_kinds}
 use Rattle.vortex_c.specs.declared.sql.NamedKind.{NamedKind}
 
 -- ---- a formula that has bytes
 
--- 8 bytes can hold each place and each number of literals, and these are of types that have bytes
+-- 8 bytes can hold each place and each number of literals or of a pattern's parts; the literals are of types that have bytes,
+-- and the characters of patterns are Unicode scalar values
 abbrev HasForm : Formula → Type 0
 HasForm (constant t) = Unit {0}
 HasForm (comparison k op x) = Fits k × IsPlainCell x
@@ -44,6 +53,7 @@ HasForm (null_test k) = Fits k
 HasForm (membership k xs) = Fits k × AreListed IsPlainCell xs
 HasForm (range k x y) = Fits k × (IsPlainCell x × IsPlainCell y)
 HasForm (prefix_test k x) = Fits k × IsPlainCell x
+HasForm (pattern_test k case parts) = Fits k × (IsCase case × AreListed IsPart parts)
 HasForm (both f g) = HasForm f × HasForm g
 HasForm (either f g) = HasForm f × HasForm g
 HasForm (negation f) = HasForm f
@@ -55,12 +65,27 @@ nests (null_test k) n h l = h
 nests (membership k xs) n h l = h
 nests (range k x y) n h l = h
 nests (prefix_test k x) n h l = h
+nests (pattern_test k case parts) n h l = h
 nests (both f g) zero h l = absurd (omega (arith, l))
 nests (both f g) (suc n) h l = (nests f n h.0 (omega (arith, l)), nests g n h.1 (omega (arith, l)))
 nests (either f g) zero h l = absurd (omega (arith, l))
 nests (either f g) (suc n) h l = (nests f n h.0 (omega (arith, l)), nests g n h.1 (omega (arith, l)))
 nests (negation f) zero h l = absurd (omega (arith, l))
 nests (negation f) (suc n) h l = nests f n h (omega (arith, l))
+
+-- ---- its tokens' strings
+
+-- UTF-8 of fewer than 2^64 bytes
+abbrev AreShort : ℕ → List TokenTree → Type 0
+AreShort size ts = (size < 2 ^ 64) × AllByRecursion (IsStringIn size) ts
+
+first-all : {X : Type 0} (P : X → Type 0) (xs ys : List X) → AllByRecursion P (xs ++ ys) → AllByRecursion P xs
+first-all P [] ys h = tt
+first-all P (x ∷ xs) ys h = (h.0, first-all P xs ys h.1)
+
+rest-all : {X : Type 0} (P : X → Type 0) (xs ys : List X) → AllByRecursion P (xs ++ ys) → AllByRecursion P ys
+rest-all P [] ys h = h
+rest-all P (x ∷ xs) ys h = rest-all P xs ys h.1
 
 -- ---- its literals
 
@@ -85,7 +110,7 @@ literals-few t h (more_literals {x} {l} {ts} {ls} said more) ps e =
     let p = stand_parts t l ls ps e in
     subst (λ (qs : List PositionTree). AreFew (x ∷ comma ∷ ts) (cells_of qs)) p.whole (one-more ts (x ∷ comma ∷ ts) p.first p.others (omega arith) (h l p.first p.stands) (literals-few t h more p.others p.stand))
 
-module _ (k : ℕ) (t : TypeTree) (fits : Fits k) (stands : AreSaid t) where
+module _ (size k : ℕ) (t : TypeTree) (fits : Fits k) (stands : AreSaid t) where
   lacking-form : (b : Bool) → HasForm (for_values b k)
   lacking-form true = (fits, tt)
   lacking-form false = (fits, tt)
@@ -129,36 +154,57 @@ module _ (k : ℕ) (t : TypeTree) (fits : Fits k) (stands : AreSaid t) where
       let a = bind_some (position_of t l) (prefix_of k) f g.1 in
       prefix-form a.0 f (stands l a.0 a.1) a.2
 
-  test-form : {ts : List TokenTree} {c : Condition} → length ts < 2 ^ 64 → IsTest ts c → (f : Formula) → formula_in k t c ≡ Some f → HasForm f
-  test-form few in_nothing f e =
+  -- a string is a literal of the column, if that holds strings
+  text-plain : (u : TypeTree) → is_utf8_type u ≡ true → AreSaid u → (bs : List ℕ) → IsPlainCell (text_cell bs)
+  text-plain (utf8_type n) is said bs = said (text_literal bs) (exactly (text_cell bs)) refl
+  text-plain _ is said bs = absurd (false≢true is)
+
+  like-form : (case : Case) (parts : List Part) (f : Formula) → AreListed IsPart parts → formula_in k t (alike case parts) ≡ Some f → HasForm f
+  like-form case parts f listed e =
+      let g = guard_some (is_utf8_type t) (Some (like_test k case parts)) f e in
+      let some : Some (like_test k case parts) ≡ Some f = g.1 in
+      let same : like_test k case parts ≡ f = cc in
+      subst HasForm same (by_prefix g.0 (prefix_asked case parts))
+    where
+      by_prefix : is_utf8_type t ≡ true → (o : Option (List ℕ)) → HasForm (prefix_or k o (pattern_test k case parts))
+      by_prefix is None = (fits, (tt, listed))
+      by_prefix is (Some cs) = (fits, text-plain t is stands (encode_utf8_all cs))
+
+  parts-listed : (escape : Option ℕ) (pattern : List ℕ) (parts : List Part) → size < 2 ^ 64 → IsUtf8 pattern × (length pattern ≤ size) → pattern_of escape (chars pattern) ≡ Some parts → AreListed IsPart parts
+  parts-listed escape pattern parts short is e =
+      let read = parts-read escape pattern parts is.0 e in
+      record { fit = omega (arith, short, is.1, read.1); each = read.0 }
+
+  test-form : {ts : List TokenTree} {c : Condition} → length ts < 2 ^ 64 → AreShort size ts → IsTest ts c → (f : Formula) → formula_in k t c ≡ Some f → HasForm f
+  test-form few short in_nothing f e =
       let m = map_some (positions_of t []) (member_among k) f e in
       let none : [] ≡ m.0 = cc in
       subst HasForm m.2 (subst (λ (ps : List PositionTree). HasForm (member_among k ps)) none (fits, record { fit = omega arith; each = tt }))
-  test-form few (in_literals {ts} {ls} l) f e =
+  test-form few short (in_literals {ts} {ls} l) f e =
       let m = map_some (positions_of t ls) (member_among k) f e in
       let each = literals-few t stands l m.0 m.1 in
       let form = member-form (cells_of m.0) each.plain (omega (arith, few, each.count, length-append ts (closing ∷ []))) in
       subst HasForm m.2 (subst HasForm (some_members k t l m.0 m.1) form)
-  test-form few (between_literals {x} {y} {lower} {upper} low high) f e =
+  test-form few short (between_literals {x} {y} {lower} {upper} low high) f e =
       let a = bind_some (position_of t lower) (λ p. option_map (range_of k p) (position_of t upper)) f e in
       let b = map_some (position_of t upper) (range_of k a.0) f a.2 in
       subst HasForm b.2 (range-form a.0 b.0 (stands lower a.0 a.1) (stands upper b.0 b.1))
-  test-form few (like_pattern {pattern} {bs} p u) f e = begun-form (text_literal bs) f e
-  test-form few (like_escaped {pattern} {bs} p u) f e = begun-form (text_literal bs) f e
+  test-form few short (like_pattern {pattern} {ts} {escape} {parts} d is) f e = like-form Sensitive parts f (parts-listed escape pattern parts short.0 short.1.1.0 is) e
+  test-form few short (ilike_pattern {pattern} {ts} {escape} {parts} d is) f e = like-form Insensitive parts f (parts-listed escape pattern parts short.0 short.1.1.0 is) e
 
-  condition-form : {ts : List TokenTree} {c : Condition} → length ts < 2 ^ 64 → IsCondition ts c → (f : Formula) → formula_in k t c ≡ Some f → HasForm f
-  condition-form few (compares {op} {x} {l} said) f e =
+  condition-form : {ts : List TokenTree} {c : Condition} → length ts < 2 ^ 64 → AreShort size ts → IsCondition ts c → (f : Formula) → formula_in k t c ≡ Some f → HasForm f
+  condition-form few short (compares {op} {x} {l} said) f e =
       let m = map_some (position_of t l) (comparison_of k op) f e in
       subst HasForm m.2 (comparison-form op m.0 (stands l m.0 m.1))
-  condition-form few is_null f e = let same : null_test k ≡ f = cc in subst HasForm same fits
-  condition-form few is_not_null f e =
+  condition-form few short is_null f e = let same : null_test k ≡ f = cc in subst HasForm same fits
+  condition-form few short is_not_null f e =
       let m = map_some (formula_in k t missing) negation f e in
       let same : null_test k ≡ m.0 = cc in
       subst HasForm m.2 (subst HasForm same fits)
-  condition-form few (bare_test d) f e = test-form few d f e
-  condition-form few (not_test {ts} {c} d) f e =
+  condition-form few short (bare_test d) f e = test-form few short d f e
+  condition-form few short (not_test {ts} {c} d) f e =
       let m = map_some (formula_in k t c) negation f e in
-      subst HasForm m.2 (test-form (omega (arith, few)) d m.0 m.1)
+      subst HasForm m.2 (test-form (omega (arith, few)) (short.0, short.1.1) d m.0 m.1)
 
 -- ---- its columns
 
@@ -183,41 +229,43 @@ unfolding column_named
 column-is-there columns name k t e = there-by columns k t (or_numbered name (named_place columns name)) e
 
 -- the tokens on either side of one are no more than all
-left-short : (ts us : List TokenTree) → length (ts ++ us) < 2 ^ 64 → length ts < 2 ^ 64
-left-short ts us short = omega (arith, short, length-append ts us)
+left-few : (ts us : List TokenTree) → length (ts ++ us) < 2 ^ 64 → length ts < 2 ^ 64
+left-few ts us few = omega (arith, few, length-append ts us)
 
-right-short : (ts : List TokenTree) (x : TokenTree) (us : List TokenTree) → length (ts ++ x ∷ us) < 2 ^ 64 → length us < 2 ^ 64
-right-short ts x us short = omega (arith, short, length-append ts (x ∷ us))
+right-few : (ts : List TokenTree) (x : TokenTree) (us : List TokenTree) → length (ts ++ x ∷ us) < 2 ^ 64 → length us < 2 ^ 64
+right-few ts x us few = omega (arith, few, length-append ts (x ∷ us))
 
 -- each column is of a type that has a byte
 abbrev ArePlain : List ColumnTree → Type 0
 ArePlain columns = (k : ℕ) (t : TypeTree) → slice_get (types_of columns) k ≡ Some t → AreSaid t
 
-module _ (columns : List ColumnTree) (plain : ArePlain columns) (few : length columns < 2 ^ 64) where
+module _ (size : ℕ) (columns : List ColumnTree) (plain : ArePlain columns) (few : length columns < 2 ^ 64) where
   place-fits : (k : ℕ) (t : TypeTree) → slice_get (types_of columns) k ≡ Some t → Fits k
   place-fits k t there =
       let within = slice_get_within (types_of columns) k t there in
       omega (arith, within, few, length-map columns (λ (c : ColumnTree). c.typed))
 
-  predicate-form : {ts : List TokenTree} {f : Formula} → length ts < 2 ^ 64 → IsPredicate columns ts f → HasForm f
-  predicate-form short says_true = tt
-  predicate-form short says_false = tt
-  predicate-form short says_null = tt
-  predicate-form short (on_column {name} {k} {t} {ts} {c} {f} named d e) =
+  predicate-form : {ts : List TokenTree} {f : Formula} → length ts < 2 ^ 64 → AreShort size ts → IsPredicate columns ts f → HasForm f
+  predicate-form few short says_true = tt
+  predicate-form few short says_false = tt
+  predicate-form few short says_null = tt
+  predicate-form few short (on_column {name} {k} {t} {ts} {c} {f} named d e) =
       let there = column-is-there columns name k t named in
-      condition-form k t (place-fits k t there) (plain k t there) (omega (arith, short)) d f e
-  predicate-form short (prefix_call {name} {k} {t} {x} {l} {f} named said e) =
+      condition-form size k t (place-fits k t there) (plain k t there) (omega (arith, few)) (short.0, short.1.1) d f e
+  predicate-form few short (prefix_call {name} {k} {t} {x} {l} {f} named said e) =
       let there = column-is-there columns name k t named in
-      begun-form k t (place-fits k t there) (plain k t there) l f e
+      begun-form size k t (place-fits k t there) (plain k t there) l f e
 
-  filter-form : {l : _} {n : ℕ} {ts : List TokenTree} {f : Formula} → length ts < 2 ^ 64 → IsFilter columns l n ts f → HasForm f
-  filter-form short (predicate d) = predicate-form short d
-  filter-form short (group {n} {ts} d) = filter-form (omega (arith, short, length-append ts (closing ∷ []))) d
-  filter-form short (not_filter d) = filter-form (omega (arith, short)) d
-  filter-form short (one_operand d) = filter-form short d
-  filter-form short (and_filter {n} {ts} {us} d e) = (filter-form (left-short ts _ short) d, filter-form (right-short ts _ us short) e)
-  filter-form short (one_conjunction d) = filter-form short d
-  filter-form short (or_filter {n} {ts} {us} d e) = (filter-form (left-short ts _ short) d, filter-form (right-short ts _ us short) e)
+  filter-form : {l : _} {n : ℕ} {ts : List TokenTree} {f : Formula} → length ts < 2 ^ 64 → AreShort size ts → IsFilter columns l n ts f → HasForm f
+  filter-form few short (predicate d) = predicate-form few short d
+  filter-form few short (group {n} {ts} d) = filter-form (omega (arith, few, length-append ts (closing ∷ []))) (short.0, first-all (IsStringIn size) ts (closing ∷ []) short.1.1) d
+  filter-form few short (not_filter d) = filter-form (omega (arith, few)) (short.0, short.1.1) d
+  filter-form few short (one_operand d) = filter-form few short d
+  filter-form few short (and_filter {n} {ts} {us} d e) =
+      (filter-form (left-few ts _ few) (short.0, first-all (IsStringIn size) ts _ short.1) d, filter-form (right-few ts _ us few) (short.0, (rest-all (IsStringIn size) ts _ short.1).1) e)
+  filter-form few short (one_conjunction d) = filter-form few short d
+  filter-form few short (or_filter {n} {ts} {us} d e) =
+      (filter-form (left-few ts _ few) (short.0, first-all (IsStringIn size) ts _ short.1) d, filter-form (right-few ts _ us few) (short.0, (rest-all (IsStringIn size) ts _ short.1).1) e)
 
 -- ---- its tokens
 
@@ -250,13 +298,13 @@ plain-columns say words named k t e =
     said-there say words t (slice_get named k) (ap (option_map (λ (c : ColumnTree). c.typed)) (sym (slice_get-map tree_of_kind named k)) ∙ sym (slice_get-map (λ (c : ColumnTree). c.typed) (trees_of_kinds named) k) ∙ e)
 
 -- the filter that words are can be written at the depth that goes with theirs
-pub words-nest : TypesSay → WordsSay → (n : ℕ) (words : List ℕ) (named : List NamedKind) (f : Formula) → length words < 2 ^ 64 → length named < 2 ^ 64 → IsSqlWithin n (trees_of_kinds named) words f → CanBeWritten (encoding_depth n) (prepared_of named f)
-words-nest say read n words named f short few h =
+pub words-nest : TypesSay → WordsSay → (n : ℕ) (words : List ℕ) (named : List NamedKind) (f : Formula) → length words < 2 ^ 64 → length named < 2 ^ 64 → IsUtf8 words → IsSqlWithin n (trees_of_kinds named) words f → CanBeWritten (encoding_depth n) (prepared_of named f)
+words-nest say read n words named f short few utf8 h =
     let tokens = tokens-few words h.items h.are in
     let low = whole-low h.means in
     record {
       types = record { fit = omega (arith, few, length-map named (λ (column : NamedKind). type_at (kind_of_named column))); each = plain-kinds named };
       filter = nests f (encoding_depth n)
-          (filter-form (trees_of_kinds named) (plain-columns say read named) (omega (arith, few, length-map named tree_of_kind)) (omega (arith, short, tokens)) h.means)
+          (filter-form (length words) (trees_of_kinds named) (plain-columns say read named) (omega (arith, few, length-map named tree_of_kind)) (omega (arith, short, tokens)) (short, strings-read words h.items utf8 h.are) h.means)
           (omega (arith, low.high, low.tokens, tokens, short));
     }

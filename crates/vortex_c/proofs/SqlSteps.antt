@@ -168,6 +168,6 @@ module _ (n m : ℕ) (words text : List ℕ) (columns : List NamedKind) (f : For
   pub encoding-fault : TypesSay → WordsSay → length words < 2 ^ 64 → length columns < 2 ^ 64 → (r : Result (Vec ℕ Global) SqlError) → WritesEncoding m (prepared_of columns f) r → IfErr r (IsSqlError n words columns)
   encoding-fault types said short few (Ok bytes) h = tt
   encoding-fault types said short few (Err e) (inl none) = subst (IsSqlError n words columns) (sym none) (all, u.1)
-  encoding-fault types said short few (Err e) (inr deep) = absurd (deep.1 (subst (λ k. CanBeWritten k (prepared_of columns f)) (sym depth) (words-nest types said n words columns f short few means)))
+  encoding-fault types said short few (Err e) (inr deep) = absurd (deep.1 (subst (λ k. CanBeWritten k (prepared_of columns f)) (sym depth) (words-nest types said n words columns f short few u.1 means)))
 
 pub ruleset shown = (named-before-none, named-all, named-at, trees-all, types-all, words-fault, encoding-along)

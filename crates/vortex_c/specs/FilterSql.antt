@@ -12,7 +12,7 @@ use Rattle.filter_sql.specs.Faults.{IsPlaced, place_of}
 use Rattle.vortex_filter.specs.Formula.{Formula}
 use Rattle.filter_sql.specs.Parsing.{IsSqlWithin, RefusesSqlWithin}
 use Rattle.filter_sql.specs.declared.error.Expected.{Expected}
-use Rattle.filter_sql.specs.declared.error.Expected.TheVariants.{And, Backslash, Closing, Column, Comma, End, Filter, Literal, Null, Opening, Operator, Prefix}
+use Rattle.filter_sql.specs.declared.error.Expected.TheVariants.{And, Closing, Column, Comma, End, Escape, Filter, Literal, Null, Opening, Operator, Pattern}
 use Rattle.filter_sql.specs.declared.error.ParseError.{ParseError}
 use Rattle.filter_sql.specs.declared.error.ParseError.TheVariants as errors
 use Rattle.vortex_c.specs.declared.sql.Mistake.{Mistake}
@@ -131,8 +131,8 @@ code_of_expected Filter = 0
 code_of_expected Column = 1
 code_of_expected Operator = 2
 code_of_expected Literal = 3
-code_of_expected Prefix = 4
-code_of_expected Backslash = 5
+code_of_expected Pattern = 4
+code_of_expected Escape = 5
 code_of_expected Null = 6
 code_of_expected And = 7
 code_of_expected Opening = 8

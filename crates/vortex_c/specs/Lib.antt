@@ -13,6 +13,10 @@ pub mod KeyColumns
 pub mod KeyWords
 pub mod Parts
 pub mod RowKeys
+pub mod Setups
+pub mod SearchFaults
+pub mod Searches
+pub mod SearchWords
 pub mod Statistics
 pub mod Statuses
 pub mod UpperAnswers

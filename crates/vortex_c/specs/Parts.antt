@@ -7,7 +7,7 @@ use Rattle.column_cells.specs.Types.{type_of_kind}
 use Rattle.vortex_value.specs.Values.Content.{Content, null}
 use Rattle.named_statistics.specs.Named.{ReadsNamed}
 use Rattle.vortex_statistics.specs.Statistics.{Known, KnownBound}
-use Rattle.column_statistics.specs.Encodings.{IsEncodingAs, IsReadError}
+use Rattle.column_statistics.specs.Encodings.{HaveValues, IsEncodingAs, IsReadError}
 use Rattle.column_statistics.specs.Items.{IsItemOf}
 use Rattle.column_statistics.specs.declared.errors.ReadError.{ReadError}
 use Rattle.column_statistics.specs.declared.errors.ReadError.TheVariants.{BadBytes, NotAValue, OutOfMemory}
@@ -44,13 +44,14 @@ pub record AreParts (kind : Kind) (s : Known) (lower upper : List ℕ) (p : Stat
   pub lower_length : p.lower_length ≡ length lower
   pub upper_length : p.upper_length ≡ length upper
 
--- these are the parts of the statistics that have this encoding, of a column of the kind that was found; they are right for all
--- that the written ones were right for
+-- these are the parts of the statistics that have this encoding, of a column of the kind that was found, whose bounds are null or
+-- values of it; they are right for all that the written ones were right for
 pub record ArePartsAt (found : Option Kind) (bytes lower upper : List ℕ) (p : StatisticsParts) : Type 0 where
   pub kind : Kind
   pub is_kind : found ≡ Some kind
   pub statistics : Known
   pub is_encoding : IsEncodingAs (type_of_kind kind) bytes statistics
+  pub values : HaveValues kind statistics
   pub right : ReadsNamed (type_of_kind kind) bytes statistics
   pub parts : AreParts kind statistics lower upper p
 

@@ -2,7 +2,6 @@
 use Rattle.std.specs.Prelude.{◌≡◌, ◌⊎◌, ℕ, List, Option, Some, None}
 use Rattle.arrow_columns.specs.declared.columns.Column.{Column}
 use Rattle.arrow_columns.specs.declared.kinds.Kind.{Kind}
-use Rattle.column_cells.specs.Types.{type_of_kind}
 use Rattle.column_statistics.specs.Encodings.{IsEncodingError, IsMergeError, IsMergedEncoding}
 use Rattle.column_statistics.specs.declared.errors.MergeError.{MergeError}
 use Rattle.column_statistics.specs.declared.errors.MergeError.TheVariants as merge
@@ -38,7 +37,7 @@ SaysWhyNoEncoding c before after status = (reason : ColumnStatisticsError) × Is
 pub record IsMergedAt (found : Option Kind) (one other bytes : List ℕ) : Type 0 where
   pub kind : Kind
   pub is_kind : found ≡ Some kind
-  pub merged : IsMergedEncoding (type_of_kind kind) one other bytes
+  pub merged : IsMergedEncoding kind one other bytes
 
 -- the status of pieces that are not merged
 abbrev pub status_of_merge : MergeError → ℕ

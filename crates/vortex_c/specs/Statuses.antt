@@ -1,6 +1,6 @@
 -- The statuses and the version as numbers, which callers in other languages have again.
 use Rattle.std.specs.Prelude.{◌≡◌, ℕ, ◌+◌, ◌*◌}
-use Rattle.vortex_c.specs.declared.status.TheConstants.{BAD_BYTES, BAD_FILTER, BAD_OFFSETS, BAD_OPTIONS, BUFFER_TOO_SMALL, GIVEN, NONE, NOT_A_NUMBER, NOT_A_VALUE, NOT_UTF8, NO_MEMORY, TOO_MANY_ROWS, TOO_SHORT, UNKNOWN_KIND, WRONG_LENGTH}
+use Rattle.vortex_c.specs.declared.status.TheConstants.{BAD_BYTES, BAD_FILTER, BAD_OFFSETS, BAD_OPTIONS, BUFFER_TOO_SMALL, GIVEN, NONE, NOT_A_NUMBER, NOT_A_VALUE, NOT_UTF8, NO_MEMORY, REFUSED, TOO_MANY_ROWS, TOO_SHORT, UNKNOWN_KIND, WRONG_LENGTH}
 
 -- each status by its number
 pub record AreStatuses : Type 0 where
@@ -19,6 +19,7 @@ pub record AreStatuses : Type 0 where
   pub wrong_length : WRONG_LENGTH ≡ 12
   pub bad_options : BAD_OPTIONS ≡ 13
   pub not_a_value : NOT_A_VALUE ≡ 14
+  pub refused : REFUSED ≡ 15
 
 -- the number of version 0.1.0
 abbrev pub version_number : ℕ

@@ -1,6 +1,7 @@
 // SPDX-License-Identifier: Apache-2.0
 // SPDX-FileCopyrightText: Copyright the Vortex contributors; ported to Rattle and changed
-//! Casts, bounds, pruning, filters, keys and statistics for callers from C: the static library `libdoqallin`.
+//! Casts, bounds, pruning, filters, keys, statistics and searches in files for callers from C: the static library
+//! `libdoqallin`.
 //!
 //! Most calls answer a status. Their clauses say what each status means, and what was written.
 #![tactic(auto)]
@@ -16,6 +17,9 @@ mod keys;
 mod keys_back;
 pub mod laws;
 mod parts;
+mod search_faults;
+mod searches;
+mod setups;
 mod sql;
 mod statistics;
 mod status;

@@ -373,7 +373,7 @@ fn wrong(place: usize, expected: u32, mistake: &mut Mistake, status: u32) -> u32
 const TOO_DEEP: u32 = 17;
 
 /// The place of a mistake, and the code of what is wrong there.
-fn place_and_code(cause: ParseError) -> (usize, u32)
+pub(crate) fn place_and_code(cause: ParseError) -> (usize, u32)
     ensures place { result.0 ≡ place_of_mistake cause }
     ensures code { result.1 ≡ code_of_mistake cause }
 {
@@ -398,8 +398,8 @@ fn code_of_expected(expected: Expected) -> u32
         Expected::Column => 1,
         Expected::Operator => 2,
         Expected::Literal => 3,
-        Expected::Prefix => 4,
-        Expected::Backslash => 5,
+        Expected::Pattern => 4,
+        Expected::Escape => 5,
         Expected::Null => 6,
         Expected::And => 7,
         Expected::Opening => 8,

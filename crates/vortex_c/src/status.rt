@@ -44,3 +44,6 @@ pub const BAD_OPTIONS: u32 = 13;
 
 /// A number is of no value of the column's logical type.
 pub const NOT_A_VALUE: u32 = 14;
+
+/// A record is no row of the columns.
+pub const REFUSED: u32 = 15;

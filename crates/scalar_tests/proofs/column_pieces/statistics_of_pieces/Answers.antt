@@ -17,5 +17,5 @@ returns-in-Ok-read_encoding-clause-right c =
     let second : c.deref-2.result.now ≡ c.in-Ok-column_encoding.other.items = search rules in
     let third : c.deref-3.result.now ≡ c.in-Ok-merged_encoding.both.items = search rules in
     both_right c.encodings_stay_right.ensures c.args.kind c.args.first c.args.second c.args.limit one other both s c.requires.first c.requires.second c.in-Ok.ensures.encoding c.in-Ok-column_encoding.ensures.encoding
-    (merged_of t one other c.deref.result.now c.deref-2.result.now both first second c.in-Ok-merged_encoding.ensures.encoding)
+    (merged_of c.args.kind one other c.deref.result.now c.deref-2.result.now both first second c.in-Ok-merged_encoding.ensures.encoding)
     (subst (λ bs. IsEncodingAs t bs s) third c.in-Ok-read_encoding.ensures.read)

@@ -12,6 +12,7 @@ returns-in-Ok-clause-given c = λ g. record {
   is_kind = c.in-Some.is;
   statistics = known c.in-Ok.statistics;
   is_encoding = c.in-Ok.ensures.read;
+  values = c.in-Ok.ensures.values;
   right = c.in-Ok.ensures.right;
   parts = c.give_parts.ensures.given g;
 }
@@ -19,7 +20,7 @@ returns-in-Ok-clause-given c = λ g. record {
 pub returns-in-Ok-clause-needed : goal.returns-in-Ok-clause-needed
 returns-in-Ok-clause-needed c = λ g.
     let h = c.give_parts.ensures.needed in
-    (h.0, h.1, record { kind = c.in-Some.kind; is_kind = c.in-Some.is; statistics = known c.in-Ok.statistics; is_encoding = c.in-Ok.ensures.read; right = c.in-Ok.ensures.right; parts = h.2 })
+    (h.0, h.1, record { kind = c.in-Some.kind; is_kind = c.in-Some.is; statistics = known c.in-Ok.statistics; is_encoding = c.in-Ok.ensures.read; values = c.in-Ok.ensures.values; right = c.in-Ok.ensures.right; parts = h.2 })
 
 pub returns-in-Ok-clause-refused : goal.returns-in-Ok-clause-refused
 returns-in-Ok-clause-refused c = inl c.give_parts.ensures.answer

@@ -1,6 +1,5 @@
 -- The encoding is given, or its length, or nothing.
 use Rattle.std.proofs.Common.{ap, arith, inr, length}
-use Rattle.column_cells.specs.Types.{type_of_kind}
 use Rattle.vortex_c.specs.Statistics.{IsMergedAt}
 use Rattle.vortex_c.proofs.Lengths.{merged_short}
 use Rattle.vortex_c.proofs.PartSteps.{encoding_answered, encoding_unanswered}
@@ -17,7 +16,7 @@ returns-in-Err-clause-answer c = encoding_unanswered (IsMergedAt c.args.kind c.a
 
 pub returns-in-Ok-clause-enough : goal.returns-in-Ok-clause-enough
 returns-in-Ok-clause-enough c = λ long small.
-    absurd (omega (arith, long, c.give.ensures.small small, ap length c.as_slice.ensures.value, merged_short (type_of_kind c.in-Some.kind) c.args.one.now c.args.other.now c.in-Ok.bytes.items c.in-Ok.ensures.encoding))
+    absurd (omega (arith, long, c.give.ensures.small small, ap length c.as_slice.ensures.value, merged_short c.in-Some.kind c.args.one.now c.args.other.now c.in-Ok.bytes.items c.in-Ok.ensures.encoding))
 
 pub returns-in-Err-clause-enough : goal.returns-in-Err-clause-enough
 returns-in-Err-clause-enough c = λ long small. absurd (c.tell_merge.ensures.refused (inr small))

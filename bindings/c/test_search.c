@@ -1,0 +1,208 @@
+// SPDX-License-Identifier: Apache-2.0
+// Tests each status of the searches in files: `test_search FILE` for a file of 30 records `N,word` in zones of ten, whose index is
+// FILE.zones. `test_search FILE memory N` makes the Nth call once, between the lines `called` and `answered` on standard error; the
+// status is 0 if it gives what it is to give, and 3 if it says that it found no memory.
+#include <malloc.h>
+#include <stdbool.h>
+#include <stdint.h>
+#include <stdio.h>
+#include <stdlib.h>
+#include <string.h>
+#include <unistd.h>
+
+#include "doqallin.h"
+
+#define BYTES(text) (const uint8_t *)(text), sizeof(text) - 1
+#define CHECK(holds) ((holds) ? passed++ : (failed++, printf("line %d: %s\n", __LINE__, #holds)))
+
+enum { ROOM = 1 << 16, DEPTH = 32, ZONES = 3, MOST = 40 };
+
+static int passed, failed;
+static uint8_t file[ROOM], index_[ROOM], setup[ROOM], blocks[ROOM], changed[ROOM];
+static size_t file_length, index_length, setup_length, blocks_length, count;
+static uint64_t root_length;
+static struct doqallin_search_fault fault;
+static struct doqallin_index_parts parts;
+static struct doqallin_byte_range ranges[MOST];
+static struct doqallin_zone zones[MOST];
+static struct doqallin_plan_lengths lengths;
+static struct doqallin_position position;
+static struct doqallin_found found[MOST];
+
+static size_t read_file(const char *name, uint8_t *into) {
+    FILE *opened = fopen(name, "rb");
+    size_t length = opened == NULL ? 0 : fread(into, 1, ROOM, opened);
+    if (length == 0) exit(2);
+    fclose(opened);
+    return length;
+}
+
+static uint32_t root_of(const uint8_t *bytes, size_t length, size_t room) {
+    return doqallin_index_root(bytes, length, setup, room, &setup_length, &parts, &fault);
+}
+
+static uint32_t blocks_of(const char *words, size_t most) {
+    return doqallin_search_blocks(index_, root_length, (const uint8_t *)words, strlen(words), DEPTH, ranges, most, &count, &fault);
+}
+
+// The bytes of the ranges of the index, one behind another.
+static void take_blocks(void) {
+    blocks_length = 0;
+    for (size_t place = 0; place < count; place++) {
+        memcpy(blocks + blocks_length, index_ + ranges[place].place, ranges[place].length);
+        blocks_length += ranges[place].length;
+    }
+}
+
+static uint32_t plan_of(const char *words, bool is_count, size_t most) {
+    return doqallin_search_plan(index_, root_length, blocks, blocks_length, (const uint8_t *)words, strlen(words), DEPTH, is_count, zones,
+                                most, ranges, most, &lengths, &fault);
+}
+
+static uint32_t records_of(const char *words, const char *text, bool is_end, size_t most) {
+    return doqallin_search_records(setup, setup_length, (const uint8_t *)words, strlen(words), DEPTH, (const uint8_t *)text, strlen(text),
+                                   is_end, &position, found, most, &count, &fault);
+}
+
+static uint32_t setup_of(const char *given, const char *text, bool has_header, size_t room) {
+    static uint64_t start;
+    uint32_t status = doqallin_guess_setup((const uint8_t *)given, strlen(given), (const uint8_t *)text, strlen(text), has_header, true,
+                                           changed, room, &count, &start, &fault);
+    return status == DOQALLIN_GIVEN && start != (has_header ? strcspn(text, "\n") + 1 : 0) ? 99 : status;
+}
+
+static bool setup_is(const char *words) {
+    return count == strlen(words) && !memcmp(changed, words, count);
+}
+
+static void roots(void) {
+    CHECK(doqallin_index_root_length(index_, DOQALLIN_INDEX_HEAD, &root_length, &fault) == DOQALLIN_GIVEN && root_length < index_length);
+    uint64_t kept = root_length;
+    CHECK(doqallin_index_root_length(index_, 15, &root_length, &fault) == DOQALLIN_BAD_BYTES && fault.reason == DOQALLIN_INDEX_SHORT);
+    memcpy(changed, index_, index_length);
+    changed[0]++;
+    CHECK(doqallin_index_root_length(changed, 16, &root_length, &fault) == DOQALLIN_BAD_BYTES && fault.reason == DOQALLIN_INDEX_MAGIC);
+    changed[0]--, changed[4]++;
+    CHECK(doqallin_index_root_length(changed, 16, &root_length, &fault) == DOQALLIN_BAD_BYTES && fault.reason == DOQALLIN_INDEX_VERSION);
+    CHECK(root_length == kept);
+    CHECK(root_of(index_, root_length, ROOM) == DOQALLIN_GIVEN && parts.file_length == file_length && parts.start == 0);
+    CHECK(parts.zone_count == ZONES && parts.block_count == 2);
+    CHECK(setup_length > 20 && !memcmp(setup + setup_length - 17, "i64 n\nutf8? word\n", 17));
+    size_t long_enough = setup_length;
+    CHECK(root_of(index_, index_length, ROOM) == DOQALLIN_GIVEN && setup_length == long_enough);
+    CHECK(root_of(index_, root_length, long_enough - 1) == DOQALLIN_BUFFER_TOO_SMALL && setup_length == long_enough);
+    CHECK(root_of(index_, root_length - 1, ROOM) == DOQALLIN_BAD_BYTES && fault.reason == DOQALLIN_INDEX_SHORT && fault.column == DOQALLIN_PART_ROOT);
+    changed[4]--, changed[40]++;
+    CHECK(root_of(changed, root_length, ROOM) == DOQALLIN_BAD_BYTES && fault.reason == DOQALLIN_INDEX_DAMAGED);
+    CHECK(root_of(index_, root_length, ROOM) == DOQALLIN_GIVEN);
+}
+
+static void plans(void) {
+    CHECK(blocks_of("n = 15", MOST) == DOQALLIN_GIVEN && count == 1 && ranges[0].place == root_length);
+    CHECK(blocks_of("n = 15 and word is null", MOST) == DOQALLIN_GIVEN && count == 1 && ranges[0].place + ranges[0].length == index_length);
+    CHECK(blocks_of("true", MOST) == DOQALLIN_GIVEN && count == 0);
+    CHECK(blocks_of("WORD = 'a'", MOST) == DOQALLIN_GIVEN && count == 1);
+    CHECK(blocks_of("n = 15", 0) == DOQALLIN_BUFFER_TOO_SMALL && count == 1);
+    CHECK(blocks_of("n = 'a'", MOST) == DOQALLIN_BAD_FILTER && fault.place == 4 && fault.reason == DOQALLIN_TYPES_DIFFER);
+    CHECK(blocks_of("m = 1", MOST) == DOQALLIN_BAD_FILTER && fault.place == 0 && fault.reason == DOQALLIN_NO_COLUMN);
+    CHECK(blocks_of("n = 1 or word = '\xff'", MOST) == DOQALLIN_NOT_UTF8);
+    CHECK(blocks_of("n = 15", MOST) == DOQALLIN_GIVEN);
+    take_blocks();
+    CHECK(plan_of("n = 15", false, MOST) == DOQALLIN_GIVEN && lengths.zones == ZONES && lengths.ranges == 1);
+    CHECK(zones[0].way == DOQALLIN_WAY_SKIP && zones[0].decision == DOQALLIN_NONE_MATCH && zones[1].way == DOQALLIN_WAY_SEARCH && zones[2].way == DOQALLIN_WAY_SKIP);
+    CHECK(zones[1].records == 10 && zones[1].rows == 10 && zones[1].place == zones[0].length && zones[2].place == zones[1].place + zones[1].length);
+    CHECK(zones[1].number == zones[0].number + 10 && zones[2].place + zones[2].length == file_length);
+    CHECK(ranges[0].place == zones[1].place && ranges[0].length == zones[1].length);
+    CHECK(plan_of("n >= 10", false, MOST) == DOQALLIN_GIVEN && zones[1].way == DOQALLIN_WAY_WHOLE && zones[1].decision == DOQALLIN_ALL_MATCH);
+    CHECK(lengths.ranges == 1 && ranges[0].length == zones[1].length + zones[2].length);
+    CHECK(plan_of("n >= 10", true, MOST) == DOQALLIN_GIVEN && lengths.ranges == 0);
+    CHECK(plan_of("n < 0", false, MOST) == DOQALLIN_GIVEN && lengths.zones == ZONES && lengths.ranges == 0);
+    CHECK(plan_of("n = 15", false, 2) == DOQALLIN_BUFFER_TOO_SMALL && lengths.zones == ZONES && lengths.ranges == 1);
+    CHECK(plan_of("n = ", false, MOST) == DOQALLIN_BAD_FILTER && fault.place == 4 && fault.reason == DOQALLIN_EXPECTED_LITERAL);
+    blocks[0]++;
+    CHECK(plan_of("n = 15", false, MOST) == DOQALLIN_BAD_BYTES && fault.column == DOQALLIN_PART_BLOCKS);
+    blocks[0]--, blocks_length--;
+    CHECK(plan_of("n = 15", false, MOST) == DOQALLIN_BAD_BYTES && fault.column == DOQALLIN_PART_BLOCKS);
+    blocks_length++;
+}
+
+static void records(void) {
+    position = (struct doqallin_position){.place = 100, .number = 7};
+    CHECK(records_of("n > 1", "1,a\n2,b\n3,c\n", true, MOST) == DOQALLIN_GIVEN && count == 2 && position.place == 112 && position.number == 10);
+    CHECK(found[0].place == 104 && found[0].length == 4 && found[0].number == 8 && found[1].place == 108 && found[1].number == 9);
+    position = (struct doqallin_position){.place = 100, .number = 7};
+    CHECK(records_of("n > 1", "1,a\n2,b\n3,c\n", true, 1) == DOQALLIN_GIVEN && count == 1 && position.place == 108 && position.number == 9);
+    CHECK(records_of("n > 1", "3,c\n", true, 1) == DOQALLIN_GIVEN && count == 1 && found[0].place == 108 && position.place == 112);
+    position = (struct doqallin_position){.place = 0, .number = 1};
+    CHECK(records_of("true", "1,a\n2,\"b\n", false, MOST) == DOQALLIN_GIVEN && count == 1 && position.place == 4);
+    CHECK(records_of("true", "2,\"b\nc\"", true, MOST) == DOQALLIN_GIVEN && count == 1 && found[0].length == 7 && position.place == 11);
+    CHECK(records_of("word like '%a%'", "", true, MOST) == DOQALLIN_GIVEN && count == 0 && position.place == 11);
+    count = 77;
+    CHECK(records_of("n > 1", "5,a\nx,b\n", true, MOST) == DOQALLIN_REFUSED && fault.place == 15 && fault.reason == DOQALLIN_REFUSED_FIELD && fault.column == 0);
+    CHECK(count == 77 && position.place == 11);
+    CHECK(records_of("n > 1", "5,a,b\n", true, MOST) == DOQALLIN_REFUSED && fault.place == 11 && fault.reason == DOQALLIN_REFUSED_FIELD_COUNT);
+    CHECK(records_of("n >", "5,a\n", true, MOST) == DOQALLIN_BAD_FILTER && fault.place == 3);
+    CHECK(records_of("n > 1 or word = '\xff'", "5,a\n", true, MOST) == DOQALLIN_NOT_UTF8);
+    setup_length--;
+    CHECK(records_of("n > 1", "5,a\n", true, MOST) == DOQALLIN_BAD_BYTES && fault.column == DOQALLIN_PART_SETUP);
+    setup_length++;
+}
+
+static void setups(void) {
+    CHECK(setup_of("44 0 0 0\n", "a,b\n1,x\n", true, ROOM) == DOQALLIN_GIVEN && setup_is("44 0 0 0\ni64? a\nutf8? b\n"));
+    CHECK(setup_of("null -\n59 1 0 0\n", "1.5;-\n", false, ROOM) == DOQALLIN_GIVEN && setup_is("null -\n59 1 0 0\ndecimal(18,1)? $1\nutf8? $2\n"));
+    CHECK(setup_of("44 0 0 0\ni64 b\n", "a,b\n1,2\n", true, ROOM) == DOQALLIN_GIVEN && setup_is("44 0 0 0\ni64? a\ni64 b\n"));
+    CHECK(setup_of("44 0 0 0\n", "a,b\n1,x\n", true, 10) == DOQALLIN_BUFFER_TOO_SMALL && count == 24);
+    CHECK(setup_of("44 0 0\n", "a,b\n", true, ROOM) == DOQALLIN_BAD_BYTES && fault.column == DOQALLIN_PART_SETUP);
+    CHECK(setup_of("34 0 0 0\n", "a,b\n", true, ROOM) == DOQALLIN_BAD_BYTES);
+}
+
+// Each call that takes memory.
+static uint32_t take_memory(int which) {
+    position = (struct doqallin_position){.place = 0, .number = 1};
+    switch (which) {
+    case 0: return root_of(index_, root_length, ROOM);
+    case 1: return blocks_of("n = 15", MOST);
+    case 2: return plan_of("n = 15", false, MOST);
+    case 3: return records_of("n > 1", "1,a\n2,b\n", true, MOST);
+    case 4: return setup_of("44 0 0 0\n", "a,b\n1,x\n", true, ROOM);
+    default: exit(2);
+    }
+}
+
+// Writes by `write` itself, which tests/refuse_nth.c listens to.
+static void say(const char *line) {
+    if (write(2, line, strlen(line)) < 0) exit(2);
+}
+
+// 0 if the call gives, 3 if it finds no memory, 1 if it does neither, or leaks.
+static int memory(int which) {
+    take_memory(which);
+    size_t before = mallinfo2().uordblks;
+    say("called\n");
+    uint32_t status = take_memory(which);
+    say("answered\n");
+    if (mallinfo2().uordblks != before) return 1;
+    return status == DOQALLIN_NO_MEMORY ? 3 : status == DOQALLIN_GIVEN ? 0 : 1;
+}
+
+int main(int argc, char **argv) {
+    if (argc < 2) return 2;
+    char name[4096];
+    snprintf(name, sizeof name, "%s.zones", argv[1]);
+    file_length = read_file(argv[1], file);
+    index_length = read_file(name, index_);
+    if (argc == 4) {
+        doqallin_index_root_length(index_, DOQALLIN_INDEX_HEAD, &root_length, &fault);
+        root_of(index_, root_length, ROOM);
+        blocks_of("n = 15", MOST);
+        take_blocks();
+        return memory(atoi(argv[3]));
+    }
+    roots();
+    plans();
+    records();
+    setups();
+    printf("%d passed, %d failed\n", passed, failed);
+    return failed != 0;
+}
