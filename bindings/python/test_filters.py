@@ -17,6 +17,7 @@ from test_columns import COUNT, Released
 
 SCHEMA = {"n": "i16", "big number": "i64", "truth": "bool", "city": "utf8", "data": "binary"}
 FORMS = {"n": "s", "big number": "l", "truth": "b", "city": "u", "data": "z"}
+PATTERNS = ["%", "O%", "Os%", "ñ%", "ñ", "B_r%n", "%s%", "_", "%a!%b", "O''%", "!%%", ""]
 WORDS = ["", "Oslo", "Os", "Bergen", "ñ", "O'Hara", "a%b"]
 
 
@@ -48,7 +49,7 @@ def some_filter(source: random.Random, depth: int) -> str:
     if test == "between":
         return f"{shown} {negated}between {literal(source, name)} and {literal(source, name)}"
     if test == "like":
-        return f"city {negated}like '{source.choice(['', 'O', 'Os', 'ñ', 'B'])}%'"
+        return f"city {negated}like '{source.choice(PATTERNS)}' escape '!'"
     if test == "constant":
         return source.choice(["true", "false", "null"])
     return f"{shown} {source.choice(['=', '<>', '!=', '<', '<=', '>', '>='])} {literal(source, name)}"
@@ -177,7 +178,7 @@ class OfFilters(Released):
         self.assertEqual(pickle.loads(pickle.dumps(found)), found)
 
     def test_mistakes(self) -> None:
-        for text in ["", "city", "city = ", "city = 1", "town = 'Oslo'", "city = 'Oslo", "city = 'Oslo' and", "fare >= 'a'", "city like '%a'", "(city = 'a'"]:
+        for text in ["", "city", "city = ", "city = 1", "town = 'Oslo'", "city = 'Oslo", "city = 'Oslo' and", "fare >= 'a'", "city like '%a' escape 'ab'", "city ilike '!' escape '!'", "(city = 'a'"]:
             with self.assertRaises(doqallin.BadFilter, msg=text) as error:
                 Filter(text, {"city": "utf8?", "fare": "u32"})
             self.assertLessEqual(error.exception.place or 0, len(text.encode()))

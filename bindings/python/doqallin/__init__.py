@@ -22,6 +22,12 @@ A filter, in SQL's words, says by statistics which parts of a table need not be 
 >>> wanted.mask({"city": ["Oslo", None]})
 Column('bool', [True, False])
 
+`open` searches CSV files by such a filter, and reads of them only what may match where they have an index:
+
+>>> import io
+>>> open(io.BytesIO(b"id,city\\n1,Oslo\\n2,Bergen\\n"), header=True).find("city like '%o'").to_pydict()
+{'id': [1], 'city': ['Oslo']}
+
 Keys of rows sort by their bytes as the rows do, so a store or an index needs no types:
 
 >>> [key.hex() for key in row_keys([["b", "a"], [1, None]])]
@@ -56,8 +62,10 @@ from ._columns import Column
 from ._errors import (
     BadBytes,
     BadFilter,
+    BadIndex,
     BadKey,
     BadOffsets,
+    BadRecord,
     BadText,
     BadType,
     CannotCast,
@@ -75,6 +83,7 @@ from ._errors import (
     NotUtf8,
     OutOfMemory,
     Refused,
+    StaleIndex,
     StreamFailed,
     TooDeep,
     TooManyRows,
@@ -82,6 +91,7 @@ from ._errors import (
     UnknownKind,
     WrongLength,
 )
+from ._files import Files, FileZone, open
 from ._filters import Filter, Outcomes, Zones
 from ._keys import from_row_keys, row_keys
 from ._kinds import Kind
@@ -97,14 +107,18 @@ from ._types import DType, dtype
 __all__ = [
     "BadBytes",
     "BadFilter",
+    "BadIndex",
     "BadKey",
     "BadOffsets",
+    "BadRecord",
     "BadText",
     "BadType",
     "CannotCast",
     "Column",
     "DType",
     "DoqallinError",
+    "FileZone",
+    "Files",
     "Filter",
     "HasVariant",
     "Invalid",
@@ -122,6 +136,7 @@ __all__ = [
     "Outcomes",
     "Refused",
     "Scalar",
+    "StaleIndex",
     "Statistics",
     "StreamFailed",
     "Table",
@@ -145,6 +160,7 @@ __all__ = [
     "literal",
     "lower_bound",
     "lower_bound_text",
+    "open",
     "row_keys",
     "scalar",
     "sort_rows",

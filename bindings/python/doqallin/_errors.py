@@ -10,7 +10,9 @@ __all__ = [
     "BadBytes",
     "BadFilter",
     "BadKey",
+    "BadIndex",
     "BadOffsets",
+    "BadRecord",
     "BadText",
     "BadType",
     "CannotCast",
@@ -28,6 +30,7 @@ __all__ = [
     "NotUtf8",
     "OutOfMemory",
     "Refused",
+    "StaleIndex",
     "StreamFailed",
     "TooDeep",
     "TooManyRows",
@@ -190,3 +193,18 @@ class WrongLength(DoqallinError, ValueError):
 
 class StreamFailed(DoqallinError, OSError):
     """An Arrow stream gave no schema or no chunk. The message is the stream's own."""
+
+
+class BadIndex(DoqallinError, ValueError):
+    """A file is no index, it is damaged or cut, or another version wrote it. The message says which."""
+
+
+class StaleIndex(DoqallinError, ValueError):
+    """A file is not the one that its index is of: it is longer, shorter, or was changed since."""
+
+
+class BadRecord(DoqallinError, ValueError):
+    """A record of a file is no row of its columns. `place` is the offset at which it begins, and `column` the name of the column
+    that does not take its field, if it is one."""
+
+    column: str | None = None

@@ -31,8 +31,8 @@ _MISTAKES = (
     "expected a column",
     "expected an operator",
     "expected a literal",
-    "expected a string that ends in its only wildcard, %",
-    "expected '\\\\'",
+    "expected a pattern that its escape does not end",
+    "expected a string of one character",
     "expected null",
     "expected and",
     "expected (",
@@ -46,6 +46,11 @@ _MISTAKES = (
     "no token",
     "nested too deep",
 )
+
+
+def filter_mistake(text: str, place: int, expected: int) -> BadFilter:
+    """What is wrong at a byte of a text."""
+    return at(BadFilter(f"byte {place} of {text!r}: {_MISTAKES[expected]}"), place)
 
 
 class Outcomes(enum.IntFlag):
@@ -120,7 +125,7 @@ def _named_in(text: str, names: Iterable[str]) -> tuple[str, ...]:
 class Filter:
     """A filter of rows, as SQL's WHERE has it: it is true, false or unknown of a row, and a row matches only if it is true.
 
-    `text` is in the words of docs/FILTERS.md: comparisons, `is null`, `in`, `between`, `like 'abc%'`, `starts_with`, `and`,
+    `text` is in the words of docs/FILTERS.md: comparisons, `is null`, `in`, `between`, `like`, `ilike`, `starts_with`, `and`,
     `or`, `not`. `schema` has the kind of each column that it may name: integers, `bool`, `utf8`, `binary`, `f32`, `f64`,
     `decimal(10,2)`, `date`, `time(us)`, `timestamp(us)` and `timestamp(us,UTC)`, whose unit is `s`, `ms`, `us` or `ns`.
     `literal` writes a value of Python as a text has it. Among floats NaN is above all and equal to itself, as in
@@ -162,12 +167,9 @@ class Filter:
             buffer = new_buffer(length)
             status = _library.prepare_filter(text, len(text), kinds, len(names), deep, buffer, length, byref(count), byref(mistake))
         if status == BAD_FILTER:
-            raise self._mistake(mistake)
+            raise filter_mistake(self.text, mistake.place, mistake.expected)
         check_column(status, Fault())
         return ctypes.string_at(buffer, count.value)
-
-    def _mistake(self, mistake: Mistake) -> BadFilter:
-        return at(BadFilter(f"byte {mistake.place} of {self.text!r}: {_MISTAKES[mistake.expected]}"), mistake.place)
 
     def _of_zones(self, zones: Zones) -> bytes:
         """A byte for each zone."""

@@ -36,7 +36,7 @@ from ._kinds import ColumnKind
 
 GIVEN, NONE, NO_MEMORY, BUFFER_TOO_SMALL, NOT_UTF8, NOT_A_NUMBER, BAD_OFFSETS = range(7)
 UNKNOWN_KIND, TOO_MANY_ROWS, TOO_SHORT, BAD_BYTES, BAD_FILTER, WRONG_LENGTH = range(7, 13)
-(NOT_A_VALUE,) = range(14, 15)
+NOT_A_VALUE, REFUSED = range(14, 16)
 MAX_SIZE: int = 2 ** (8 * ctypes.sizeof(c_size_t)) - 1
 
 _ERRORS: dict[int, tuple[type[DoqallinError], str]] = {
@@ -116,6 +116,64 @@ class Mistake(ctypes.Structure):
     _fields_ = [("place", c_size_t), ("expected", c_uint32)]
 
 
+class ByteRange(ctypes.Structure):
+    """So many bytes of a file from an offset on."""
+
+    place: int
+    length: int
+    _fields_ = [("place", c_uint64), ("length", c_uint64)]
+
+
+class IndexParts(ctypes.Structure):
+    file_length: int
+    changed: int
+    start: int
+    zone_count: int
+    block_count: int
+    _fields_ = [("file_length", c_uint64), ("changed", c_uint64), ("start", c_uint64), ("zone_count", c_size_t), ("block_count", c_size_t)]
+
+
+class SearchFault(ctypes.Structure):
+    place: int
+    column: int
+    reason: int
+    _fields_ = [("place", c_uint64), ("column", c_uint64), ("reason", c_uint32)]
+
+
+class RawZone(ctypes.Structure):
+    place: int
+    length: int
+    records: int
+    rows: int
+    number: int
+    way: int
+    decision: int
+    _fields_ = [(name, c_uint64) for name in ("place", "length", "records", "rows", "number")] + [("way", c_uint8), ("decision", c_uint8)]
+
+
+class PlanLengths(ctypes.Structure):
+    zones: int
+    ranges: int
+    _fields_ = [("zones", c_size_t), ("ranges", c_size_t)]
+
+
+class Found(ctypes.Structure):
+    """A record that matches."""
+
+    place: int
+    length: int
+    number: int
+    _fields_ = [("place", c_uint64), ("length", c_uint64), ("number", c_uint64)]
+
+
+class Position(ctypes.Structure):
+    """Where a record begins: the offset in its file, and the number."""
+
+    place: int
+    number: int
+    _fields_ = [("place", c_uint64), ("number", c_uint64)]
+
+
 _BYTES = (c_char_p, c_size_t)
 _ROOM = (POINTER(c_uint8), c_size_t)
 _COLUMN = (*_BYTES, POINTER(c_uint64), c_size_t, c_size_t, *_ROOM, *_ROOM, POINTER(BoundLengths))
@@ -172,6 +230,16 @@ filter_outcomes = _declare("filter_outcomes", c_uint32, *_BYTES, *_BYTES, *_SPAC
 filter_mask = _declare("filter_mask", c_uint32, *_BYTES, *_SPACE, c_size_t, c_size_t, *_SPACE, _OUT)
 row_keys = _declare("row_keys", c_uint32, *_SPACE, *_BYTES, *_SPACE, *_SPACE, _OUT, _OUT)
 columns_of_typed_keys = _declare("columns_of_typed_keys", c_uint32, *_SPACE, *_BYTES, *_SPACE, *_SPACE, *_SPACE, _OUT)
+
+
+# Searches in files.
+_FAULT = POINTER(SearchFault)
+index_root_length = _declare("index_root_length", c_uint32, *_BYTES, POINTER(c_uint64), _FAULT)
+index_root = _declare("index_root", c_uint32, *_BYTES, *_SPACE, _OUT, POINTER(IndexParts), _FAULT)
+search_blocks = _declare("search_blocks", c_uint32, *_BYTES, *_BYTES, c_size_t, *_SPACE, _OUT, _FAULT)
+search_plan = _declare("search_plan", c_uint32, *_BYTES, *_BYTES, *_BYTES, c_size_t, c_bool, *_SPACE, *_SPACE, POINTER(PlanLengths), _FAULT)
+search_records = _declare("search_records", c_uint32, *_BYTES, *_BYTES, c_size_t, *_BYTES, c_bool, POINTER(Position), *_SPACE, _OUT, _FAULT)
+guess_setup = _declare("guess_setup", c_uint32, *_BYTES, *_BYTES, c_bool, c_bool, *_SPACE, _OUT, POINTER(c_uint64), _FAULT)
 
 
 # A buffer of this size holds most answers.

@@ -15,11 +15,16 @@ if TYPE_CHECKING:
 __all__: list[str] = []
 
 
+def is_plain(one: Column) -> bool:
+    """Whether the column is of numbers, without nulls."""
+    return not one.null_count and (one._kind.code < BOOL or one._kind.code in (F32, F64))
+
+
 def array_of(one: Column) -> Any:
     """Numbers without nulls as they lie there, and truths without nulls. Others are an array of objects."""
     numpy: Any = sys.modules["numpy"]
     code, values = one._kind.code, one.buffers()[2] or b""
-    if not one.null_count and (code < BOOL or code in (F32, F64)):
+    if is_plain(one):
         return numpy.frombuffer(values, ITEMS[code])[one._offset :][: len(one)]
     if not one.null_count and code == BOOL:
         first, last = one._offset // 8, (one._offset + len(one) + 7) // 8

@@ -4,12 +4,14 @@
 
 from __future__ import annotations
 
+import importlib
 from collections.abc import Callable, Iterable, Iterator, Mapping
 from typing import Any
 
 from ._columns import Column
 from ._errors import NoColumn, WrongLength
 from ._export import schema_of_table, stream_of_table
+from ._numpy import is_plain
 
 __all__ = ["Table"]
 
@@ -39,6 +41,37 @@ class Table(Mapping[str, Column]):
         if self._row_count is None:
             self._row_count = next((len(self[name]) for name in self), 0)
         return self._row_count
+
+    @property
+    def num_rows(self) -> int:
+        """How many rows there are, by pyarrow's name."""
+        return self.row_count
+
+    @property
+    def num_columns(self) -> int:
+        return len(self)
+
+    @property
+    def column_names(self) -> list[str]:
+        return list(self)
+
+    def column(self, name: str | int) -> Column:
+        """The column of this name, or at this place."""
+        return self[list(self)[name] if isinstance(name, int) else name]
+
+    def to_pydict(self) -> dict[str, list[Any]]:
+        """The values of each column by its name, with None for a null."""
+        return {name: self[name].to_list() for name in self}
+
+    def to_pylist(self) -> list[dict[str, Any]]:
+        """A dict for each row."""
+        columns = self.to_pydict()
+        return [dict(zip(columns, row)) for row in zip(*columns.values())]
+
+    def to_pandas(self) -> Any:
+        """A DataFrame of pandas, which has to be installed. Numbers without nulls are arrays, and others lists of values."""
+        pandas: Any = importlib.import_module("pandas")
+        return pandas.DataFrame({name: one.__array__() if is_plain(one) else one.to_list() for name, one in self.items()})
 
     def __arrow_c_schema__(self) -> object:
         """The columns' names and formats, in a capsule of Arrow's C data interface."""

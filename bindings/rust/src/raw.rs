@@ -19,6 +19,10 @@ pub const BAD_BYTES: u32 = 10;
 pub const BAD_FILTER: u32 = 11;
 pub const WRONG_LENGTH: u32 = 12;
 pub const NOT_A_VALUE: u32 = 14;
+pub const REFUSED: u32 = 15;
+
+/// How many bytes of an index say how long its root is.
+pub const INDEX_HEAD: usize = 16;
 
 #[repr(C)]
 #[derive(Default)]
@@ -99,6 +103,69 @@ pub struct NamedKind {
 pub struct Mistake {
     pub place: usize,
     pub expected: u32,
+}
+
+/// So many bytes of a file from an offset on.
+#[repr(C)]
+#[derive(Clone, Copy, Default)]
+pub struct ByteRange {
+    pub place: u64,
+    pub length: u64,
+}
+
+#[repr(C)]
+#[derive(Default)]
+pub struct IndexParts {
+    pub file_length: u64,
+    pub changed: u64,
+    pub start: u64,
+    pub zone_count: usize,
+    pub block_count: usize,
+}
+
+#[repr(C)]
+#[derive(Default)]
+pub struct SearchFault {
+    pub place: u64,
+    pub column: u64,
+    pub reason: u32,
+}
+
+/// A zone of an index, and what a search does with it.
+#[repr(C)]
+#[derive(Clone, Copy, Default)]
+pub struct FileZone {
+    pub place: u64,
+    pub length: u64,
+    pub records: u64,
+    pub rows: u64,
+    pub number: u64,
+    pub way: u8,
+    pub decision: u8,
+}
+
+#[repr(C)]
+#[derive(Default)]
+pub struct PlanLengths {
+    pub zones: usize,
+    pub ranges: usize,
+}
+
+/// A record that matches.
+#[repr(C)]
+#[derive(Clone, Copy, Default)]
+pub struct Found {
+    pub place: u64,
+    pub length: u64,
+    pub number: u64,
+}
+
+/// Where a record begins.
+#[repr(C)]
+#[derive(Clone, Copy, Default)]
+pub struct Position {
+    pub place: u64,
+    pub number: u64,
 }
 
 /// An upper bound of a value at n bytes, into a buffer.
@@ -282,6 +349,76 @@ unsafe extern "C" {
         buffer: *mut u8,
         buffer_length: usize,
         fault: &mut Fault,
+    ) -> u32;
+    pub fn doqallin_index_root_length(
+        head: *const u8,
+        head_length: usize,
+        length: &mut u64,
+        fault: &mut SearchFault,
+    ) -> u32;
+    pub fn doqallin_index_root(
+        root: *const u8,
+        root_length: usize,
+        buffer: *mut u8,
+        buffer_length: usize,
+        count: &mut usize,
+        parts: &mut IndexParts,
+        fault: &mut SearchFault,
+    ) -> u32;
+    pub fn doqallin_search_blocks(
+        root: *const u8,
+        root_length: usize,
+        words: *const u8,
+        words_length: usize,
+        depth: usize,
+        ranges: *mut ByteRange,
+        ranges_length: usize,
+        count: &mut usize,
+        fault: &mut SearchFault,
+    ) -> u32;
+    pub fn doqallin_search_plan(
+        root: *const u8,
+        root_length: usize,
+        blocks: *const u8,
+        blocks_length: usize,
+        words: *const u8,
+        words_length: usize,
+        depth: usize,
+        is_count: bool,
+        zones: *mut FileZone,
+        zones_length: usize,
+        ranges: *mut ByteRange,
+        ranges_length: usize,
+        lengths: &mut PlanLengths,
+        fault: &mut SearchFault,
+    ) -> u32;
+    pub fn doqallin_search_records(
+        setup: *const u8,
+        setup_length: usize,
+        words: *const u8,
+        words_length: usize,
+        depth: usize,
+        text: *const u8,
+        text_length: usize,
+        is_end: bool,
+        position: &mut Position,
+        found: *mut Found,
+        found_length: usize,
+        count: &mut usize,
+        fault: &mut SearchFault,
+    ) -> u32;
+    pub fn doqallin_guess_setup(
+        setup: *const u8,
+        setup_length: usize,
+        text: *const u8,
+        text_length: usize,
+        has_header: bool,
+        is_all: bool,
+        buffer: *mut u8,
+        buffer_length: usize,
+        count: &mut usize,
+        start: &mut u64,
+        fault: &mut SearchFault,
     ) -> u32;
 }
 

@@ -1,0 +1,342 @@
+# SPDX-License-Identifier: Apache-2.0
+# SPDX-FileCopyrightText: Copyright the Vortex contributors; ported to Rattle and changed
+"""CSV files as tables: searched by a filter, by their indexes where they have one."""
+
+from __future__ import annotations
+
+import glob
+import io
+import os
+from collections.abc import Iterable, Iterator, Mapping
+from typing import Any, NamedTuple
+
+from ._columns import Column, joined
+from ._errors import KindsDiffer, NoColumn, StaleIndex
+from ._library import Position, RawZone
+from ._searches import ALL_MATCH, EVERY_ROW, SKIP, UNKNOWN, WHOLE, Index, Match, guessed, matching
+from ._tables import Table, of_columns
+from ._types import DType
+from ._words import Rows, places_of
+
+__all__ = ["Files", "FileZone", "open"]
+
+# So many bytes are read at once, and so many rows are in a batch.
+_PIECE = 4 << 20
+_ROWS = 1 << 16
+# Columns are guessed from so many bytes at the beginning.
+_BEGINNING = 1 << 20
+_WAYS = ("skip", "whole", "search")
+
+
+class FileZone(NamedTuple):
+    """A zone of a file: its name, where it begins, how many bytes, records and rows it has, and what a search does with it: `skip`,
+    `whole` or `search`."""
+
+    file: str
+    offset: int
+    length: int
+    records: int
+    rows: int
+    way: str
+
+
+class _Source:
+    """A file: bytes that are read from any offset."""
+
+    def __init__(self, file: Any, index: Any) -> None:
+        self._file, self._path = (None, os.fspath(file)) if isinstance(file, (str, os.PathLike)) else (file, None)
+        self.name = self._path or str(getattr(file, "name", None) or getattr(file, "path", None) or "a file")
+        self._index = index
+        self.fetched = 0
+
+    def _opened(self) -> Any:
+        if self._file is None:
+            self._file = io.open(str(self._path), "rb", buffering=0)
+        return self._file
+
+    def close(self) -> None:
+        """Closes what was opened here."""
+        if self._path is not None and self._file is not None:
+            self._file.close()
+            self._file = None
+
+    def read(self, offset: int, length: int) -> bytes:
+        file = self._opened()
+        file.seek(offset)
+        pieces: list[bytes] = []
+        while length > 0:
+            piece = file.read(length)
+            if not piece:
+                break
+            pieces.append(piece)
+            length -= len(piece)
+            self.fetched += len(piece)
+        return b"".join(pieces) if len(pieces) != 1 else pieces[0]
+
+    def length(self) -> int:
+        return int(self._opened().seek(0, os.SEEK_END))
+
+    def changed(self) -> int | None:
+        """When the file was changed last, in nanoseconds since 1970, if it is one of the system's."""
+        return None if self._path is None else os.stat(self._path).st_mtime_ns
+
+    def index(self) -> _Source | None:
+        """The file of its index, if it has one."""
+        if self._index is False or self._index is None:
+            return None
+        if self._index is not True:
+            return _Source(self._index, None)
+        if self._path is None or not os.path.exists(f"{self._path}.zones"):
+            return None
+        return _Source(f"{self._path}.zones", None)
+
+
+class _File:
+    """A file, how its records are read, and its index if it has one."""
+
+    def __init__(self, source: _Source, given: bytes, has_header: bool, has_options: bool) -> None:
+        self.source = source
+        self.index: Index | None = None
+        found = None if has_options else source.index()
+        self._index_source = found
+        if found is not None:
+            self.index = Index(found.read)
+            self._compare(self.index)
+            self.setup, self.start = self.index.setup, self.index.parts.start
+        else:
+            first = source.read(0, _BEGINNING)
+            self.setup, self.start = guessed(first, given, has_header, len(first) < _BEGINNING)
+
+    def _compare(self, index: Index) -> None:
+        changed = self.source.changed()
+        if index.parts.file_length != self.source.length() or changed not in (None, index.parts.changed):
+            raise StaleIndex(f"{self.source.name} is not as it was when its index was made: make the index again, or open the file with index=False")
+
+    def close(self) -> None:
+        self.source.close()
+        if self._index_source is not None:
+            self._index_source.close()
+
+    def zones(self, words: str) -> list[FileZone]:
+        if self.index is None:
+            length = self.source.length() - self.start
+            return [FileZone(self.source.name, self.start, length, -1, -1, "search")]
+        return [FileZone(self.source.name, zone.place, zone.length, zone.records, zone.rows, _WAYS[zone.way]) for zone in self.index.plan(words).zones]
+
+    def matches(self, words: str, is_count: bool = False) -> Iterator[tuple[bytes, int, list[Match]]]:
+        """Pieces of the file with the records in them that match: bytes, the offset at which they begin, and the records."""
+        if self.index is None:
+            yield from self._of_whole_file(words)
+            return
+        for zones in _runs(self.index.plan(words, is_count).zones, is_count):
+            first, last = zones[0], zones[-1]
+            text = self.source.read(first.place, last.place + last.length - first.place)
+            position = Position(first.place, first.number + 1)
+            asked = EVERY_ROW if first.way == WHOLE and not is_count else words
+            for found in matching(self.setup, asked, text, position, True):
+                yield text, first.place, found
+
+    def _of_whole_file(self, words: str) -> Iterator[tuple[bytes, int, list[Match]]]:
+        position, text, read = Position(self.start, 1), b"", self.start
+        is_end = False
+        while not is_end:
+            piece = self.source.read(read, max(_PIECE, len(text)))
+            is_end = not piece
+            read += len(piece)
+            start, text = position.place, text + piece
+            for found in matching(self.setup, words, text, position, is_end):
+                yield text, start, found
+            text = text[position.place - start :]
+
+    def count(self, words: str) -> int:
+        known = 0
+        if self.index is not None:
+            known = sum(zone.rows for zone in self.index.plan(words, True).zones if zone.decision == ALL_MATCH)
+        return known + sum(len(found) for _, _, found in self.matches(words, True))
+
+
+def _runs(zones: Iterable[RawZone], is_count: bool) -> Iterator[list[RawZone]]:
+    """Zones next to each other that are read alike, as many as make a piece."""
+    run: list[RawZone] = []
+    for zone in zones:
+        is_read = zone.decision == UNKNOWN if is_count else zone.way != SKIP
+        if run and not (is_read and zone.way == run[0].way and zone.place == run[-1].place + run[-1].length and zone.place + zone.length - run[0].place <= _PIECE):
+            yield run
+            run = []
+        if is_read:
+            run.append(zone)
+    if run:
+        yield run
+
+
+class Files:
+    """CSV files as one table. `doqallin.open` makes it.
+
+    What is asked is a filter, as SQL's WHERE has it. A file with an index, which `zone_map index` makes, is read only where rows may
+    match; another one is read whole. Nothing is kept in memory but the rows that match, and of `batches` one batch.
+    """
+
+    def __init__(self, sources: list[_Source], given: bytes, has_header: bool, has_options: bool) -> None:
+        self._files: list[_File] = []
+        try:
+            for source in sources:
+                self._files.append(_File(source, given, has_header, has_options))
+        except BaseException:
+            self.close()
+            raise
+
+    def close(self) -> None:
+        """Closes the files that were opened by their names. A search opens them again."""
+        for file in self._files:
+            file.close()
+
+    def __enter__(self) -> Files:
+        return self
+
+    def __exit__(self, *error: object) -> None:
+        self.close()
+
+    @property
+    def names(self) -> list[str]:
+        """The files' names, in their order."""
+        return [file.source.name for file in self._files]
+
+    @property
+    def columns(self) -> dict[str, str]:
+        """The columns' names and kinds."""
+        return dict(self._files[0].setup.columns)
+
+    @property
+    def zones(self) -> list[FileZone]:
+        """The zones of all files. A file without an index is one zone, whose records were not counted."""
+        return self.plan()
+
+    @property
+    def fetched(self) -> int:
+        """How many bytes of the files, without their indexes, were read so far."""
+        return sum(file.source.fetched for file in self._files)
+
+    def plan(self, where: str = EVERY_ROW) -> list[FileZone]:
+        """The zones of all files, with what a search by this filter does with each."""
+        return [zone for file in self._files for zone in file.zones(where)]
+
+    def records(self, where: str = EVERY_ROW) -> Iterator[bytes]:
+        """The records that match, byte for byte as they are in the files, with their line ends."""
+        for file in self._files:
+            for text, start, found in file.matches(where):
+                for one in found:
+                    yield text[one.offset - start : one.offset - start + one.length]
+
+    def batches(self, where: str = EVERY_ROW, columns: Iterable[str] | None = None, rows: int = _ROWS) -> Iterator[Table]:
+        """The rows that match, so many in each table; the last one may have fewer. No table is empty."""
+        wanted = None if columns is None else list(columns)
+        first: dict[str, str] | None = None
+        parts: list[dict[str, Column]] = []
+        count = 0
+        for file in self._files:
+            found = Rows(file.setup, places_of(file.setup, wanted))
+            kinds = {name: file.setup.columns[name] for name in found.places}
+            first = kinds if first is None else first
+            if kinds != first:
+                raise KindsDiffer(f"{file.source.name} has the columns {kinds}, and {self._files[0].source.name} {first}: open them with columns=")
+            for text, start, matches in file.matches(where):
+                for one in matches:
+                    found.add(text[one.offset - start : one.offset - start + one.length])
+                    if count + found.count == rows:
+                        yield _table([*parts, found.columns()])
+                        parts, count = [], 0
+            if found.count:
+                count += found.count
+                parts.append(found.columns())
+        if parts:
+            yield _table(parts)
+
+    def __iter__(self) -> Iterator[Table]:
+        return self.batches()
+
+    def find(self, where: str = EVERY_ROW, columns: Iterable[str] | None = None) -> Table:
+        """The rows that match, as a table of these columns, or of all."""
+        wanted = None if columns is None else list(columns)
+        found = [dict(batch) for batch in self.batches(where, wanted)]
+        return _table(found or [Rows(self._files[0].setup, places_of(self._files[0].setup, wanted)).columns()])
+
+    def head(self, rows: int = 5, where: str = EVERY_ROW, columns: Iterable[str] | None = None) -> Table:
+        """The first rows that match."""
+        wanted = None if columns is None else list(columns)
+        if rows > 0:
+            for batch in self.batches(where, wanted, rows):
+                return batch
+        return _table([Rows(self._files[0].setup, places_of(self._files[0].setup, wanted)).columns()])
+
+    def count(self, where: str = EVERY_ROW) -> int:
+        """How many rows match. A zone is not read where its statistics say that all do, or none."""
+        return sum(file.count(where) for file in self._files)
+
+    def __repr__(self) -> str:
+        return f"<Files {', '.join(self.names[:3])}{', ..' if len(self.names) > 3 else ''}: {self.columns}>"
+
+
+def _table(parts: list[dict[str, Column]]) -> Table:
+    return of_columns({name: joined([part[name] for part in parts]) for name in parts[0]})
+
+
+def _paths(source: Any) -> list[Any]:
+    """The files that a caller names: one, the files of a folder that end in .csv or .tsv, those of a pattern, or each of a list."""
+    if isinstance(source, (list, tuple)):
+        return [path for part in source for path in _paths(part)]
+    if not isinstance(source, (str, os.PathLike)):
+        return [source]
+    path = os.fspath(source)
+    if os.path.isdir(path):
+        return sorted(os.path.join(path, name) for name in os.listdir(path) if name.endswith((".csv", ".tsv")))
+    if not os.path.exists(path) and glob.has_magic(path):
+        return sorted(name for name in glob.glob(path, recursive=True) if not name.endswith(".zones"))
+    return [path]
+
+
+def _setup_text(columns: Mapping[str, str | DType] | None, delimiter: str, nulls: Iterable[str], lenient: bool) -> bytes:
+    lines = [f"null {word}" for word in nulls]
+    if delimiter != "none" and (len(delimiter) != 1 or not delimiter.isascii()):
+        raise ValueError(f"a delimiter is one byte, or none: {delimiter!r}")
+    lines.append(f"{255 if delimiter == 'none' else ord(delimiter)} {int(lenient)} 0 0")
+    lines += [f"{str(kind).replace(' ', '')} {name}" for name, kind in (columns or {}).items()]
+    return "".join(f"{line}\n" for line in lines).encode()
+
+
+def open(
+    source: Any,
+    *,
+    columns: Mapping[str, str | DType] | None = None,
+    header: bool = False,
+    delimiter: str = ",",
+    nulls: Iterable[str] = (),
+    lenient: bool = False,
+    index: Any = True,
+) -> Files:
+    """CSV files as a table that is searched: a path, a pattern of paths, a folder, a list of these, or a file object that has `seek`
+    and `read`, as those of fsspec.
+
+    A file `trips.csv` is searched by its index `trips.csv.zones` if that is there: `zone_map index trips.csv` makes it, and says
+    with its options how the records are read. `index=False` passes it over; of a file object the index is another one, given as
+    `index`. Without an index the file is read whole, and the options are those of `zone_map`: `header`, `delimiter` (one byte, or
+    `none`), `nulls`, `lenient`, and `columns` with a kind for each name; the others are guessed from the first thousand records.
+    Any of these options passes the index over.
+
+    Raises StaleIndex if a file changed since its index was made, BadIndex for a damaged one, BadFilter for a mistake in a filter,
+    and BadRecord with the first record that is no row of the columns.
+
+    >>> import io
+    >>> trips = open(io.BytesIO(b"id,city,fare\\n1,Oslo,9.5\\n2,Bergen,12.25\\n3,Oslo,30\\n"), header=True)
+    >>> trips.columns
+    {'id': 'i64?', 'city': 'utf8?', 'fare': 'decimal(18,2)?'}
+    >>> trips.find("fare >= 10.5 and city = 'Oslo'", columns=["id", "fare"]).to_pydict()
+    {'id': [3], 'fare': [Decimal('30.00')]}
+    >>> trips.count("city like '%s%'")
+    2
+    """
+    words = tuple(nulls)
+    has_options = columns is not None or header or delimiter != "," or bool(words) or lenient
+    sources = [_Source(path, index) for path in _paths(source)]
+    if not sources:
+        raise NoColumn(f"there is no file {source!r}")
+    return Files(sources, _setup_text(columns, delimiter, words, lenient), header, has_options)

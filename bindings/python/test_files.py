@@ -1,0 +1,308 @@
+# SPDX-License-Identifier: Apache-2.0
+"""Files as tables: what is found beside plain Python, with an index and without, in memory and over HTTP.
+
+Indexes are made by the program `zone_map`, of crates/zone_map/out or of the environment's ZONE_MAP.
+"""
+
+import csv
+import http.server
+import io
+import os
+import pickle
+import random
+import re
+import subprocess
+import sys
+import tempfile
+import threading
+import unittest
+import urllib.request
+from datetime import date, datetime, time, timezone
+from decimal import Decimal
+from pathlib import Path
+
+import doqallin
+from doqallin import BadFilter, BadIndex, BadRecord, KindsDiffer, NoColumn, StaleIndex
+
+PROGRAM = os.environ.get("ZONE_MAP") or str(Path(__file__).resolve().parents[2] / "crates/zone_map/out/zone_map")
+COLUMNS = "id i64, town utf8?, fare decimal(10,2)?, day date?"
+TOWNS = ["Oslo", "Bergen", "Ås", "O'Hara", "a,b", 'say "so"', "two\nlines", ""]
+ROWS = 3000
+
+
+def random_rows(chance, count=ROWS):
+    maybe = lambda value: None if chance.random() < 0.1 else value
+    return [
+        (number // 2, maybe(chance.choice(TOWNS)), maybe(Decimal(chance.randrange(-500, 10000)).scaleb(-2)), maybe(date(2026, 1 + number * 11 // count, chance.randrange(1, 29))))
+        for number in range(count)
+    ]
+
+
+def text_of(rows, end="\n"):
+    """Rows as CSV: a null is an empty field, and an empty string is in quotes."""
+    word = lambda value: "" if value is None else '"' + value.replace('"', '""') + '"' if isinstance(value, str) else str(value)
+    return "".join(",".join(map(word, row)) + end for row in rows).encode()
+
+
+def dicts(rows, names=("id", "town", "fare", "day")):
+    return {name: [row[place] for row in rows] for place, name in enumerate(names)}
+
+
+# A filter, and the same of a row in Python.
+FILTERS = [
+    ("id between 100 and 120", lambda row: 100 <= row[0] <= 120),
+    ("town = 'Oslo' and fare >= 10.5", lambda row: row[1] == "Oslo" and row[2] is not None and row[2] >= Decimal("10.5")),
+    ("town like '%l%' or town ilike 'o''h%'", lambda row: row[1] is not None and ("l" in row[1] or row[1].lower().startswith("o'h"))),
+    ("day < '2026-03-01' and not fare > 5", lambda row: row[3] is not None and row[3] < date(2026, 3, 1) and row[2] is not None and row[2] <= 5),
+    ("fare is null", lambda row: row[2] is None),
+    ("town in ('a,b', 'two\nlines', '') and id > 1400", lambda row: row[1] in ("a,b", "two\nlines", "") and row[0] > 1400),
+    ("id < 0", lambda row: False),
+    ("true", lambda row: True),
+]
+
+
+class InAFolder(unittest.TestCase):
+    def setUp(self):
+        folder = tempfile.TemporaryDirectory()
+        self.addCleanup(folder.cleanup)
+        self.folder = Path(folder.name)
+
+    def written(self, name, rows, *, rows_of_zone=100, has_index=True, end="\n"):
+        path = self.folder / name
+        path.write_bytes(text_of(rows, end))
+        if has_index:
+            subprocess.run([PROGRAM, "index", path, "--columns", COLUMNS, "--rows", str(rows_of_zone)], check=True, stdout=subprocess.DEVNULL)
+        return path
+
+
+class OfOneFile(InAFolder):
+    def see(self, files, rows):
+        for text, matches in FILTERS:
+            wanted = [row for row in rows if matches(row)]
+            with self.subTest(text):
+                found = files.find(text)
+                self.assertEqual(found.to_pydict(), dicts(wanted))
+                self.assertEqual(found.num_rows, len(wanted))
+                self.assertEqual(files.count(text), len(wanted))
+                self.assertEqual(files.find(text, columns=["fare"]).to_pydict(), {"fare": [row[2] for row in wanted]})
+
+    def test_with_an_index(self):
+        rows = random_rows(random.Random(1))
+        for end in ("\n", "\r\n"):
+            self.see(doqallin.open(self.written("trips.csv", rows, end=end)), rows)
+
+    def test_without_an_index(self):
+        rows = random_rows(random.Random(2))
+        path = self.written("trips.csv", rows, has_index=False)
+        kinds = {"id": "i64", "town": "utf8?", "fare": "decimal(10,2)?", "day": "date?"}
+        self.see(doqallin.open(path, columns=kinds), rows)
+        self.see(doqallin.open(io.BytesIO(text_of(rows)), columns=kinds), rows)
+
+    def test_guessed(self):
+        text = b"id,name,price,at,seen\n1,a,9.5,14:05,2026-03-01T14:05Z\n2,,10.25,,\n"
+        files = doqallin.open(io.BytesIO(text), header=True)
+        self.assertEqual(files.columns, {"id": "i64?", "name": "utf8?", "price": "decimal(18,2)?", "at": "utf8?", "seen": "timestamp(us,UTC)?"})
+        self.assertEqual(
+            files.find("price > 9").to_pylist(),
+            [
+                {"id": 1, "name": "a", "price": Decimal("9.50"), "at": "14:05", "seen": datetime(2026, 3, 1, 14, 5, tzinfo=timezone.utc)},
+                {"id": 2, "name": None, "price": Decimal("10.25"), "at": None, "seen": None},
+            ],
+        )
+
+    def test_each_kind(self):
+        kinds = {"a": "u8", "b": "f32?", "c": "f64", "d": "time(ms)?", "e": "timestamp(s)", "f": "binary?", "g": "bytes", "h": "timestamp(us,UTC)"}
+        text = b"7,0.5,NaN,14:05:57.25,2026-03-01 14:05:57,00ff,\xff,2026-03-01T14:05:57.000001+01:30\n255,,-inf,,2026-03-01,,,2026-03-01T00:00Z\n"
+        found = doqallin.open(io.BytesIO(text), columns=kinds).find()
+        self.assertEqual(found["a"].to_list(), [7, 255])
+        self.assertEqual(found["b"].to_list(), [0.5, None])
+        self.assertEqual(str(found["c"].to_list()), "[nan, -inf]")
+        self.assertEqual(found["d"].to_list(), [time(14, 5, 57, 250000), None])
+        self.assertEqual(found["e"].to_list(), [datetime(2026, 3, 1, 14, 5, 57), datetime(2026, 3, 1)])
+        self.assertEqual(found["f"].to_list(), [b"\x00\xff", None])
+        self.assertEqual(found["g"].to_list(), [b"\xff", b""])
+        self.assertEqual(found["h"].to_list(), [datetime(2026, 3, 1, 12, 35, 57, 1, timezone.utc), datetime(2026, 3, 1, tzinfo=timezone.utc)])
+
+    def test_options(self):
+        files = doqallin.open(io.BytesIO(b"1;NA\n2;x\n"), columns={"n": "i64", "word": "utf8?"}, delimiter=";", nulls=["NA"])
+        self.assertEqual(files.find("word is null").to_pydict(), {"n": [1], "word": [None]})
+        lenient = doqallin.open(io.BytesIO(b"1,x\n1_0,y\n,z\n3\n4,a,b\n"), columns={"n": "i64?", "word": "utf8?"}, lenient=True)
+        self.assertEqual(lenient.find().to_pydict(), {"n": [1, None, None, 3, 4], "word": ["x", "y", "z", None, "a"]})
+        lines = doqallin.open(io.BytesIO(b"a,b\nc\n"), delimiter="none")
+        self.assertEqual(lines.find("line like '%,%'").to_pydict(), {"line": ["a,b"]})
+
+    def test_batches_and_head(self):
+        rows = random_rows(random.Random(3))
+        files = doqallin.open(self.written("trips.csv", rows))
+        batches = list(files.batches(rows=700))
+        self.assertEqual([batch.num_rows for batch in batches], [700, 700, 700, 700, 200])
+        self.assertEqual([row for batch in batches for row in batch["id"]], [row[0] for row in rows])
+        self.assertEqual(files.head(3, "id >= 50", columns=["id"]).to_pydict(), {"id": [50, 50, 51]})
+        self.assertEqual(files.head(0).num_rows, 0)
+        self.assertEqual(sum(batch.num_rows for batch in files), ROWS)
+        self.assertEqual(b"".join(files.records()), text_of(rows))
+
+    def test_zones_and_what_is_read(self):
+        rows = random_rows(random.Random(4))
+        files = doqallin.open(self.written("trips.csv", rows))
+        self.assertEqual(len(files.zones), ROWS // 100)
+        self.assertEqual(sum(zone.rows for zone in files.zones), ROWS)
+        planned = files.plan("id between 100 and 120")
+        read = [zone for zone in planned if zone.way != "skip"]
+        before = files.fetched
+        files.find("id between 100 and 120")
+        self.assertEqual(files.fetched - before, sum(zone.length for zone in read))
+        self.assertLess(len(read), 3)
+        before = files.fetched
+        self.assertEqual(files.count("id >= 0"), ROWS)
+        self.assertEqual(files.fetched, before)
+
+    def test_what_goes_wrong(self):
+        rows = random_rows(random.Random(5), 300)
+        path = self.written("trips.csv", rows)
+        files = doqallin.open(path)
+        with self.assertRaises(BadFilter) as raised:
+            files.find("town = 3 and")
+        self.assertEqual(raised.exception.place, 7)
+        with self.assertRaises(NoColumn):
+            files.find(columns=["fares"])
+        with self.assertRaises(BadRecord) as bad:
+            doqallin.open(io.BytesIO(b"1,a\n2,b\nx,c\n"), columns={"n": "i64", "word": "utf8"}).find()
+        self.assertEqual((bad.exception.place, bad.exception.column), (8, "n"))
+        with self.assertRaises(BadRecord):
+            doqallin.open(io.BytesIO(b"1,a\n2\n"), columns={"n": "i64", "word": "utf8"}).count()
+        index = self.folder / "trips.csv.zones"
+        whole = index.read_bytes()
+        for damaged in (b"", whole[:20], b"x" + whole[1:], whole[:100] + bytes([whole[100] ^ 1]) + whole[101:]):
+            index.write_bytes(damaged)
+            with self.assertRaises(BadIndex):
+                doqallin.open(path).count("id > 3")
+        index.write_bytes(whole)
+        path.write_bytes(path.read_bytes() + b"1,a,2,\n")
+        with self.assertRaises(StaleIndex):
+            doqallin.open(path)
+        self.assertEqual(doqallin.open(path, index=False).count(), 301)
+
+
+class OfManyFiles(InAFolder):
+    def test_a_folder_a_pattern_and_a_list(self):
+        chance = random.Random(6)
+        parts = [random_rows(chance, 500) for _ in range(4)]
+        paths = [self.written(f"part{n}.csv", rows, has_index=n != 2) for n, rows in enumerate(parts)]
+        kinds = dict(id="i64", town="utf8?", fare="decimal(10,2)?", day="date?")
+        rows = [row for part in parts for row in part]
+        for source in (self.folder, str(self.folder / "part*.csv"), paths):
+            with doqallin.open(source, columns=kinds) as files:
+                self.assertEqual(len(files.names), 4)
+                for text, matches in FILTERS:
+                    self.assertEqual(files.find(text).to_pydict(), dicts([row for row in rows if matches(row)]))
+        with self.assertRaises(KindsDiffer):
+            doqallin.open(paths).find()
+        with self.assertRaises(NoColumn):
+            doqallin.open(str(self.folder / "*.tsv"))
+        with self.assertRaises(FileNotFoundError):
+            doqallin.open(self.folder / "none.csv")
+
+
+class Ranges(http.server.SimpleHTTPRequestHandler):
+    """Serves files, and of each as many bytes as are asked for; it counts them."""
+
+    served = 0
+
+    def do_GET(self):
+        data = Path(self.translate_path(self.path)).read_bytes()
+        first, last = map(int, re.fullmatch(r"bytes=(\d+)-(\d+)", self.headers["Range"]).groups())
+        part = data[first : last + 1]
+        Ranges.served += len(part)
+        self.send_response(206)
+        self.send_header("Content-Length", str(len(part)))
+        self.end_headers()
+        self.wfile.write(part)
+
+    def do_HEAD(self):
+        self.send_response(200)
+        self.send_header("Content-Length", str(Path(self.translate_path(self.path)).stat().st_size))
+        self.end_headers()
+
+    def log_message(self, *words):
+        pass
+
+
+class Remote(io.RawIOBase):
+    """A file over HTTP, read by ranges, with `seek` and `read` as fsspec's files have them."""
+
+    def __init__(self, url):
+        self.url, self.place = url, 0
+        with urllib.request.urlopen(urllib.request.Request(url, method="HEAD")) as answer:
+            self.size = int(answer.headers["Content-Length"])
+
+    def seek(self, offset, whence=os.SEEK_SET):
+        self.place = offset + {os.SEEK_SET: 0, os.SEEK_CUR: self.place, os.SEEK_END: self.size}[whence]
+        return self.place
+
+    def read(self, length=-1):
+        end = self.size if length < 0 else min(self.size, self.place + length)
+        if end <= self.place:
+            return b""
+        with urllib.request.urlopen(urllib.request.Request(self.url, headers={"Range": f"bytes={self.place}-{end - 1}"})) as answer:
+            data = answer.read()
+        self.place += len(data)
+        return data
+
+
+class OverHttp(InAFolder):
+    def test_only_what_is_needed_is_fetched(self):
+        rows = random_rows(random.Random(7))
+        path = self.written("trips.csv", rows)
+        server = http.server.ThreadingHTTPServer(("127.0.0.1", 0), lambda *words: Ranges(*words, directory=str(self.folder)))
+        threading.Thread(target=server.serve_forever, daemon=True).start()
+        self.addCleanup(server.server_close)
+        self.addCleanup(server.shutdown)
+        url = f"http://127.0.0.1:{server.server_port}/trips.csv"
+        files = doqallin.open(Remote(url), index=Remote(f"{url}.zones"))
+        before = Ranges.served
+        found = files.find("id between 100 and 120")
+        self.assertEqual(found.to_pydict(), dicts([row for row in rows if 100 <= row[0] <= 120]))
+        read = sum(zone.length for zone in files.plan("id between 100 and 120") if zone.way != "skip")
+        index = (self.folder / "trips.csv.zones").stat().st_size
+        self.assertLessEqual(Ranges.served - before, read + 2 * index)
+        self.assertLess(Ranges.served - before, path.stat().st_size // 4)
+
+
+class OfTheModule(InAFolder):
+    def run_module(self, *words):
+        ran = subprocess.run([sys.executable, "-m", "doqallin", *map(str, words)], capture_output=True, cwd=Path(__file__).parent)
+        return ran.returncode, ran.stdout, ran.stderr.decode()
+
+    def test_find_and_count(self):
+        rows = random_rows(random.Random(8), 500)
+        path = self.written("trips.csv", rows)
+        wanted = [row for row in rows if row[1] == "Oslo"]
+        self.assertEqual(self.run_module("find", path, "town = 'Oslo'"), (0, text_of(wanted), ""))
+        self.assertEqual(self.run_module("count", path, "town = 'Oslo'"), (0, b"%d\n" % len(wanted), ""))
+        self.assertEqual(self.run_module("find", path, "id < 0"), (1, b"", ""))
+        status, said, told = self.run_module("find", path, "town >")
+        self.assertEqual((status, said), (2, b""))
+        self.assertIn("expected a literal", told)
+
+
+class OfTables(unittest.TestCase):
+    def test_names_of_pyarrow(self):
+        found = doqallin.table({"n": [1, 2], "word": ["a", None]})
+        self.assertEqual((found.num_rows, found.num_columns, found.column_names), (2, 2, ["n", "word"]))
+        self.assertEqual(found.column("n"), found.column(0))
+        self.assertEqual(found.to_pylist(), [{"n": 1, "word": "a"}, {"n": 2, "word": None}])
+        self.assertEqual(pickle.loads(pickle.dumps(found)).to_pydict(), found.to_pydict())
+
+    def test_csv_reads_the_same_fields(self):
+        from doqallin._words import _split
+
+        chance = random.Random(9)
+        for _ in range(2000):
+            line = "".join(chance.choices('ab",', k=chance.randrange(1, 8)))
+            if line.count('"') % 2 == 0:
+                self.assertEqual([word.decode() for word, _ in _split(line.encode(), b",")], next(csv.reader([line])), line)
+
+
+if __name__ == "__main__":
+    unittest.main()
