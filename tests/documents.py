@@ -14,7 +14,7 @@ ELSEWHERE = set(
     my_crate new1 price stock Ibindings Lbindings WHAT_GOES_WRONG""".split()
 )
 SMALL = "zero one two three four five six seven eight nine ten eleven twelve thirteen fourteen fifteen sixteen seventeen eighteen nineteen".split()
-NUMBERS = {**{word: at for at, word in enumerate(SMALL)}, "forty": 40, "a thousand": 1000}
+NUMBERS = {**{word: at for at, word in enumerate(SMALL)}, "twenty": 20, "forty": 40, "a thousand": 1000}
 texts = {}
 
 
