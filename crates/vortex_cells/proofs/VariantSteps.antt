@@ -1,5 +1,5 @@
 -- Steps of the test for variants.
-use Rattle.std.proofs.Common.{◌≡◌, ◌||◌, ◌<◌, ◌≤◌, ℕ, zero, suc, ◌+◌, List, [], ◌∷◌, length, drop, get_or, drop-cons, Bool, true, false, refl, sym, subst, ap, ap₂, ◌∙◌, arith, true≢false}
+use Rattle.std.proofs.Common.{◌≡◌, ◌↔◌, ◌||◌, ◌<◌, ◌≤◌, ℕ, zero, suc, ◌+◌, List, [], ◌∷◌, length, drop, get_or, drop-cons, Bool, true, false, refl, sym, subst, ap, ap₂, ◌∙◌, arith, true≢false}
 use Rattle.std.proofs.Math.Seq.{drop-nil}
 use Rattle.vortex_dtype.specs.TypeTree.{TypeTree, list_type, fixed_size_list_type, map_type, struct_type, union_type, variant_type, extension_type, TypeTrees, no_types, type_then}
 use Rattle.vortex_value.specs.TypesWithin.{HasNoVariant, HaveNoVariant}
@@ -20,8 +20,6 @@ type_size_item ts i t h is = subst (λ (d : DType). type_size (type_of d) ≤ ty
 pub have_variant-at : (i : ℕ) (ts : List DType) (t : DType) → i < length ts → t ≡ get_or ts i t
     → have_variant (dtype_trees (drop i ts)) ≡ (has_variant (type_of t) || have_variant (dtype_trees (drop (suc i) ts)))
 have_variant-at i ts t h is = let e = drop-cons ts i t h in rw (e, ← is) refl
-
-pub ruleset shown = (or_false, type_size_item, have_variant-at, type_of-List, type_of-FixedSizeList, type_of-Map, type_of-Struct, type_of-Union, type_of-Extension)
 
 -- the test is the one of `HasNoVariant`
 
@@ -59,6 +57,15 @@ mutual
   tests-from_none no_types h = refl
   tests-from_none (type_then t ts) h = or_false (has_variant t) (have_variant ts) (test-from_none t h.0) ∙ tests-from_none ts h.1
 
+-- an answer that is the one of the test says whether there is none
+pub tied : (t : TypeTree) (r : Bool) → r ≡ has_variant t → (r ≡ false) ↔ HasNoVariant t
+tied t r is = (λ h. none-from_test t (sym is ∙ h), λ n. is ∙ test-from_none t n)
+
+pub tied_all : (ts : TypeTrees) (r : Bool) → r ≡ have_variant ts → (r ≡ false) ↔ HaveNoVariant ts
+tied_all ts r is = (λ h. none-from_tests ts (sym is ∙ h), λ n. is ∙ tests-from_none ts n)
+
+pub ruleset shown = (or_false, type_size_item, have_variant-at, tied, tied_all, type_of-List, type_of-FixedSizeList, type_of-Map, type_of-Struct, type_of-Union, type_of-Extension)
+
 -- a variant that was found, and one that was not
 pub found_variant : (t : TypeTree) → has_variant t ≡ true → ¬ (HasNoVariant t)
 found_variant t h n = true≢false (sym h ∙ test-from_none t n)
@@ -86,3 +93,13 @@ pub ids-end : (i : ℕ) (ts : List DType) → length ts ≤ i → HaveByteIds (d
 ids-end i [] h = subst (λ ds. HaveByteIds (dtype_trees ds)) (sym (drop-nil i)) tt
 ids-end zero (t ∷ ts) h = absurd (omega arith)
 ids-end (suc i) (t ∷ ts) h = ids-end i ts (omega arith)
+
+-- a type at a place that has one, and no place behind the last
+
+pub found-at : (i : ℕ) (ts : List DType) (t : DType) (b : Bool) → i < length ts → t ≡ get_or ts i t → b ≡ has_variant (type_of t) → b ≡ true → have_variant (dtype_trees (drop i ts)) ≡ true
+found-at i ts t b less is e f = have_variant-at i ts t less is ∙ ap (λ c. c || have_variant (dtype_trees (drop (suc i) ts))) (sym e ∙ f)
+
+pub none-end : (i : ℕ) (ts : List DType) → length ts ≤ i → have_variant (dtype_trees (drop i ts)) ≡ false
+none-end i [] h = ap (λ ds. have_variant (dtype_trees ds)) (drop-nil i)
+none-end zero (t ∷ ts) h = absurd (omega arith)
+none-end (suc i) (t ∷ ts) h = none-end i ts (omega arith)

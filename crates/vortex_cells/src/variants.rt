@@ -1,8 +1,8 @@
 //! Whether a variant stands in a type: then its values have no order, and no keys.
 
-ghost use Rattle.std.specs.Prelude.{◌≡◌, false};
-ghost use Rattle.vortex_cells.specs.Words.{FirstIsByte, HasByteIds, HaveByteIds, dtype_trees, has_variant};
-ghost use Rattle.vortex_cells.specs.Words.{have_variant, type_of, variants_of};
+ghost use Rattle.std.specs.Prelude.{◌≡◌, ◌↔◌, false};
+ghost use Rattle.vortex_cells.specs.Words.{FirstIsByte, HasByteIds, HasNoVariant, HaveByteIds, HaveNoVariant};
+ghost use Rattle.vortex_cells.specs.Words.{dtype_trees, has_variant, have_variant, type_of, variants_of};
 
 use vortex_dtype::{DType, UnionVariants};
 
@@ -22,6 +22,7 @@ fn ids_are_bytes(variants: &UnionVariants)
 #[tactic(auto, using(crate::proofs::VariantSteps::shown))]
 pub fn has_variant(dtype: &DType) -> bool
     ensures decided { result ≡ has_variant (type_of dtype.now) }
+    ensures none { (result ≡ false) ↔ HasNoVariant (type_of dtype.now) }
     ensures ids { result ≡ false → HasByteIds (type_of dtype.now) }
 {
     match dtype {
@@ -44,6 +45,7 @@ pub fn has_variant(dtype: &DType) -> bool
 #[tactic(auto, using(crate::proofs::VariantSteps::shown))]
 pub fn have_variant(dtypes: &[DType]) -> bool
     ensures decided { result ≡ have_variant (dtype_trees dtypes.now) }
+    ensures none { (result ≡ false) ↔ HaveNoVariant (dtype_trees dtypes.now) }
     ensures ids { result ≡ false → HaveByteIds (dtype_trees dtypes.now) }
 {
     for dtype in dtypes {
