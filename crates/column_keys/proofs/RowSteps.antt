@@ -1,11 +1,11 @@
 -- Steps of one row.
-use Rattle.std.proofs.Common.{◌≡◌, ℕ, zero, suc, ◌+◌, ◌-◌, ◌<◌, Bool, true, false, List, [], ◌++◌, length, length-append, drop, get_or, refl, sym, subst, ap, ◌∙◌, arith}
-use Rattle.std.proofs.lemmas.List.{drop_more, length-map}
+use Rattle.std.proofs.Common.{◌≡◌, ℕ, zero, suc, ◌+◌, ◌<◌, List, [], ◌++◌, length, length-append, drop, get_or, refl, sym, subst, ap, ◌∙◌, arith}
+use Rattle.std.proofs.lemmas.List.{drop_more}
 use Rattle.vortex_value.specs.Size.{capped}
-use Rattle.vortex_row.specs.Keys.{inverted, key}
+use Rattle.vortex_row.specs.Keys.{key}
 use Rattle.vortex_row.specs.Columns.{key_with}
+use Rattle.vortex_row.proofs.EncodeSteps.{key_with-length}
 use Rattle.vortex_value.specs.Values.Content.{Content, null}
-use Rattle.vortex_row.specs.declared.options.SortOptions.{SortOptions}
 use Rattle.column_cells.specs.Contents.{HasTexts, contents_of_rows}
 use Rattle.column_keys.specs.Keys.{column_length, key_of_row, keys_length}
 use Rattle.column_keys.specs.Tables.{HasRow, options_of, table_of}
@@ -21,14 +21,6 @@ pub row-here : (i : ℕ) (columns : List KeyColumn) (row : ℕ) (column : KeyCol
 row-here i columns row column h is all = subst (λ c. (row < length (contents_of_rows c.rows)) × HasTexts c.rows) (sym is) (all i column h)
 
 -- how long it is
-
-inverted-length : (b : Bool) (bs : List ℕ) → length (inverted b bs) ≡ length bs
-inverted-length false bs = refl
-inverted-length true bs = length-map bs (λ b. 255 - b)
-
-key_with-length : (o : SortOptions) (c : Content) → length (key_with o c) ≡ length (key c)
-key_with-length o null = refl
-key_with-length o c = inverted-length o.descending (key c)
 
 pub length-at : (i : ℕ) (columns : List KeyColumn) (row : ℕ) (column : KeyColumn) → i < length columns → column ≡ get_or columns i column
     → length (key_of_row (options_of (drop i columns)) (table_of (drop i columns)) row)

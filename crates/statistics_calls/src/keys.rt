@@ -9,6 +9,7 @@ use std::cmp::Ordering;
 use std::mem::replace;
 use vortex_cells::has_variant;
 use vortex_dtype::{DType, VortexError};
+use vortex_row::laws::keys_are_as_long;
 use vortex_row::{
     RowEncoder, RowError, SortOptions, append_key, append_row_key, compare_keys, decode_key,
     decode_row_key, has_key, key_length, plain_key_length, write_plain_key,
@@ -159,6 +160,7 @@ fn plain_key(alloc: Global, scalar: &Scalar, options: SortOptions) -> KeyResult 
     let Some(value) = plain_of(scalar) else {
         return Ok(KeyAnswer::NotPlain);
     };
+    keys_are_as_long();
     let mut key = Vec::new(alloc);
     key.resize(plain_key_length(value), 0)?;
     write_plain_key(value, options, 0, &mut key);

@@ -23,7 +23,7 @@ use Rattle.vortex_row.proofs.SlotSteps.{left_at-then}
 
 -- the key of a row is as long as the keys of its values
 
-row-length : (os : List SortOptions) (cs : List Content) → length cs ≡ length os → length (row_key os cs) ≡ keys_length cs
+pub row-length : (os : List SortOptions) (cs : List Content) → length cs ≡ length os → length (row_key os cs) ≡ keys_length cs
 row-length [] [] e = refl
 row-length [] (c ∷ cs) e = absurd (omega arith)
 row-length (o ∷ os) [] e = absurd (omega arith)

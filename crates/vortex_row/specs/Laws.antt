@@ -19,6 +19,7 @@ use Rattle.vortex_row.specs.Columns.{key_with, in_column, column_cmp, row_key, r
 use Rattle.vortex_row.specs.ContentOrder.{content_cmp}
 use Rattle.vortex_row.specs.Held.{IsHeld}
 use Rattle.vortex_row.specs.Keys.{key}
+use Rattle.vortex_row.specs.Steps.{keys_length}
 use Rattle.vortex_row.specs.declared.options.SortOptions.{SortOptions}
 
 -- The order of keys, byte by byte, is that of the contents: of one content, of one in a column, and of rows that are as
@@ -57,3 +58,8 @@ pub record CastsKeepKeys : Type 0 where
 -- A valid value of a type without variants has no typed child.
 abbrev pub ValuesHaveNoTyped : Type 0
 ValuesHaveNoTyped = (t : TypeTree) (v : RawTree) → HasNoVariant t → Valid t v → HasNoTyped (content v)
+
+-- A key is as long under any options as in ascending order, and the key of a row as the keys of its values.
+pub record KeysAreAsLong : Type 0 where
+  pub columns : (o : SortOptions) (c : Content) → length (key_with o c) ≡ length (key c)
+  pub rows : (os : List SortOptions) (cs : List Content) → length cs ≡ length os → length (row_key os cs) ≡ keys_length cs

@@ -25,7 +25,7 @@ pub use Rattle.vortex_row.specs.Columns.{key_with, null_byte, row_key}
 pub use Rattle.vortex_row.specs.Encoders.{encoder_options, encoder_types}
 pub use Rattle.vortex_row.specs.Held.{AreBytes, AreHeld, IsHeld, IsWhole}
 pub use Rattle.vortex_row.specs.Keys.{big_endian, downward_key, escape, escaped, inverted, key, keys, number_bytes, truth_byte, upward_key, whole_key}
-pub use Rattle.vortex_row.specs.Laws.{CastsKeepKeys, KeysAreApart, KeysAreOrdered, OrderIsContentOrder, ValuesHaveNoTyped}
+pub use Rattle.vortex_row.specs.Laws.{CastsKeepKeys, KeysAreApart, KeysAreAsLong, KeysAreOrdered, OrderIsContentOrder, ValuesHaveNoTyped}
 pub use Rattle.vortex_row.specs.Plain.{plain_content}
 pub use Rattle.vortex_row.specs.Slots.{HasSlot, Writes}
 pub use Rattle.vortex_row.specs.Steps.{HasAppended, inverted_word, keys_length, side_byte, side_key}

@@ -3,8 +3,8 @@
 //! These functions do nothing when they run. The contract of each is a law over the definitions in
 //! `specs/`, and its proof is the law's proof.
 
-ghost use Rattle.vortex_row.specs.Words.{CastsKeepKeys, KeysAreApart, KeysAreOrdered, OrderIsContentOrder};
-ghost use Rattle.vortex_row.specs.Words.{ValuesHaveNoTyped};
+ghost use Rattle.vortex_row.specs.Words.{CastsKeepKeys, KeysAreApart, KeysAreAsLong, KeysAreOrdered};
+ghost use Rattle.vortex_row.specs.Words.{OrderIsContentOrder, ValuesHaveNoTyped};
 
 /// Keys compare, byte by byte, as the contents do in their total order: one by one, in a column
 /// under any options, and as rows of several columns, the first that differs deciding.
@@ -35,4 +35,10 @@ pub fn casts_keep_keys()
 /// A valid value of a type without variants has no variant's child at any depth.
 pub fn values_have_no_typed()
     ensures { ValuesHaveNoTyped }
+{}
+
+/// A key has as many bytes under any options as in ascending order, and the key of a row as many as the keys
+/// of its values have together.
+pub fn keys_are_as_long()
+    ensures { KeysAreAsLong }
 {}
