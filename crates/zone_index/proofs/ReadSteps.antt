@@ -4,9 +4,11 @@ use Rattle.std.proofs.lemmas.List.{append-nil, map-append}
 use Rattle.zone_index.specs.declared.encoding.EncodingError.{EncodingError}
 use Rattle.zone_index.specs.declared.encoding.ReadError.{ReadError}
 use Rattle.zone_index.specs.declared.encoding.ReadError.TheVariants as errors
-use Rattle.zone_index.specs.EncodingReading.{◌>>=◌, Fails, added_at, blocks_at, dealt_at, front_at, many_at, piece_at}
+use Rattle.zone_index.specs.EncodingReading.{◌>>=◌, Fails, added_at, blocks_at, dealt_at, front_at, known_at, many_at, piece_at, signed_at, signed_root_at}
+use Rattle.std.specs.Prelude.{IfErr}
+use Rattle.zone_index.specs.declared.encoding.TheConstants.{MAGIC, VERSION}
 use Rattle.zone_index.specs.declared.encoding.Block.{Block}
-use Rattle.zone_index.specs.declared.encoding.EncodingError.TheVariants.{Trailing}
+use Rattle.zone_index.specs.declared.encoding.EncodingError.TheVariants.{Magic, Trailing, Version}
 use Rattle.zone_index.specs.Encoding.{ZoneValue, block_value, is_wanted}
 
 -- what was read before, and what is still read
@@ -184,3 +186,13 @@ added_done wanted blocks initial now bytes rest k b past is full so_far = sym so
 pub added_trails : (wanted : List Bool) (blocks : List Block) (initial now : List ZoneValue) (bytes rest : List ℕ) (k : ℕ) (b : Bool) → length blocks ≤ k → b ≡ eqb (length rest) 0 → b ≡ false → AreAddedSoFar wanted blocks initial bytes k now rest
     → blocks_at wanted 0 (map block_value blocks) initial bytes ≡ Err Trailing
 added_trails wanted blocks initial now bytes rest k b past is full so_far = sym so_far ∙ no_more wanted blocks now rest k past ∙ ap (λ (t : Bool). cond t (Ok now) (Err Trailing)) (sym is ∙ full)
+
+-- the root has the digest that stands behind it
+
+pub signed_then : (bytes a b : List ℕ) (s : List ℕ × List ℕ) → known_at Magic MAGIC bytes ≡ Ok a → known_at Version VERSION a ≡ Ok b → signed_at b ≡ Ok s → signed_root_at bytes ≡ Ok s
+unfolding signed_root_at
+signed_then bytes a b s p q r = rw (p, q, r) refl
+
+pub always : {A B : Type 0} (r : Result A B) (P : B → Type 0) → ((e : B) → P e) → IfErr r P
+always {A} {B} (Ok a) P every = tt
+always {A} {B} (Err e) P every = every e

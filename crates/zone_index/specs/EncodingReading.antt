@@ -100,6 +100,17 @@ signed_at bytes = do
   digest ← front_at 32 content.1
   if bytes_eq (sha256 content.0) digest.0 then Ok (content.0, digest.1) else Err Damaged
 
+-- the signed bytes of a root that this program can read, and the bytes of the blocks
+unfoldable pub signed_root_at : List ℕ → Result (List ℕ × List ℕ) EncodingError
+signed_root_at bytes = do
+  after_magic ← known_at Magic MAGIC bytes
+  after_version ← known_at Version VERSION after_magic
+  signed_at after_version
+
+-- the bytes begin with signed ones, whose digest is right
+abbrev pub IsSigned : List ℕ → Type 0
+IsSigned bytes = (signed : List ℕ × List ℕ) × (signed_root_at bytes ≡ Ok signed)
+
 -- the root, and the bytes of the blocks
 unfoldable pub root_at : List ℕ → Result (RootValue × List ℕ) EncodingError
 root_at bytes = do

@@ -10,7 +10,8 @@ use crate::encoding::{EncodingError, ReadError};
 
 /// The number in the first four bytes, and what follows them.
 fn u32_at(bytes: &[u8]) -> Result<(u32, &[u8]), ReadError>
-    ensures { Gives (λ x. (x.0, x.1.now)) result (number_at w32 bytes.now) }
+    ensures read { Gives (λ x. (x.0, x.1.now)) result (number_at w32 bytes.now) }
+    ensures memory { IfErr result (λ e. e ≢ Memory) }
 {
     if bytes.len() < 4 {
         return Err(ReadError::Fault(EncodingError::Short));
@@ -41,7 +42,8 @@ pub(crate) fn after_known(
     number: u32,
     bytes: &[u8],
 ) -> Result<&[u8], ReadError>
-    ensures { Gives (λ x. x.now) result (known_at fault number bytes.now) }
+    ensures read { Gives (λ x. x.now) result (known_at fault number bytes.now) }
+    ensures memory { IfErr result (λ e. e ≢ Memory) }
 {
     let (found, rest) = u32_at(bytes)?;
     if found == number {
@@ -53,7 +55,8 @@ pub(crate) fn after_known(
 
 /// So many bytes, and what follows them.
 pub(crate) fn front_in(count: u64, bytes: &[u8]) -> Result<(&[u8], &[u8]), ReadError>
-    ensures { Gives (λ x. (x.0.now, x.1.now)) result (front_at count bytes.now) }
+    ensures read { Gives (λ x. (x.0.now, x.1.now)) result (front_at count bytes.now) }
+    ensures memory { IfErr result (λ e. e ≢ Memory) }
 {
     let count = count as usize;
     if bytes.len() < count {
@@ -65,7 +68,8 @@ pub(crate) fn front_in(count: u64, bytes: &[u8]) -> Result<(&[u8], &[u8]), ReadE
 /// As many bytes as a number before them says, and what follows them.
 #[tactic(auto, unfolding(crate::specs::EncodingReading::bytes_at))]
 pub(crate) fn bytes_in(bytes: &[u8]) -> Result<(&[u8], &[u8]), ReadError>
-    ensures { Gives (λ x. (x.0.now, x.1.now)) result (bytes_at bytes.now) }
+    ensures read { Gives (λ x. (x.0.now, x.1.now)) result (bytes_at bytes.now) }
+    ensures memory { IfErr result (λ e. e ≢ Memory) }
 {
     let (count, rest) = u64_at(bytes)?;
     front_in(count, rest)

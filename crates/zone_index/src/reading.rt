@@ -1,12 +1,12 @@
 //! An index is read from bytes.
 
-ghost use Rattle.std.specs.Prelude.{◌≡◌, ◌++◌, ℕ, List, IfErr, IfOk, Ok, map};
+ghost use Rattle.std.specs.Prelude.{◌≡◌, ◌≢◌, ◌++◌, ℕ, List, IfErr, IfOk, Ok, map};
 ghost use Rattle.std.specs.List.{concat};
 ghost use Rattle.zone_index.specs.Encoding.{AddBlocks, FitsEncoding, IndexValue, block_value, blocks_of};
 ghost use Rattle.zone_index.specs.Encoding.{index_encoding, index_value, root_encoding, root_of, root_value, wanted_of};
 ghost use Rattle.zone_index.specs.Encoding.{zone_value, zone_values};
-ghost use Rattle.zone_index.specs.EncodingReading.{Gives, block_at, content_at, counted_at, file_at, index_at, many_at};
-ghost use Rattle.zone_index.specs.EncodingReading.{root_at, signed_at, zone_at};
+ghost use Rattle.zone_index.specs.EncodingReading.{Gives, IsSigned, block_at, content_at, counted_at, file_at};
+ghost use Rattle.zone_index.specs.EncodingReading.{index_at, many_at, root_at, signed_at, zone_at};
 ghost use Rattle.zone_index.specs.declared.encoding.ReadError.TheVariants.{Memory};
 
 use crate::blocks::add_blocks;
@@ -19,7 +19,8 @@ use std::alloc::Global;
 /// The bytes before a digest, if it is theirs, and what follows it.
 #[tactic(auto, unfolding(crate::specs::EncodingReading::signed_at))]
 fn signed_in(bytes: &[u8]) -> Result<(&[u8], &[u8]), ReadError>
-    ensures { Gives (λ x. (x.0.now, x.1.now)) result (signed_at bytes.now) }
+    ensures read { Gives (λ x. (x.0.now, x.1.now)) result (signed_at bytes.now) }
+    ensures memory { IfErr result (λ e. e ≢ Memory) }
 {
     let (content, rest) = bytes_in(bytes)?;
     let (digest, after) = front_in(DIGEST as u64, rest)?;
@@ -144,9 +145,10 @@ fn content_in(alloc: Global, bytes: &[u8]) -> Result<Root, ReadError>
 }
 
 /// The root, and the bytes of the blocks.
-#[tactic(auto, unfolding(crate::specs::EncodingReading::root_at))]
+#[tactic(auto, unfolding(crate::specs::EncodingReading::root_at, crate::specs::EncodingReading::signed_root_at))]
 fn root_in(alloc: Global, bytes: &[u8]) -> Result<(Root, &[u8]), ReadError>
-    ensures { Gives (λ x. (root_value x.0, x.1.now)) result (root_at bytes.now) }
+    ensures exact { Gives (λ x. (root_value x.0, x.1.now)) result (root_at bytes.now) }
+    ensures signed { IfErr result (λ e. e ≡ Memory → IsSigned bytes.now) }
 {
     let rest = after_known(EncodingError::Magic, MAGIC, bytes)?;
     let rest = after_known(EncodingError::Version, VERSION, rest)?;
@@ -168,6 +170,8 @@ pub fn read_root(alloc: Global, bytes: &[u8]) -> Result<(Root, &[u8]), ReadError
         → bytes.now ≡ index_encoding n x pieces → IfErr result (λ e. e ≡ Memory) }
     // Which error it is.
     ensures exact { Gives (λ read. (root_value read.0, read.1.now)) result (root_at bytes.now) }
+    // Memory is asked for once the digest was found right.
+    ensures signed { IfErr result (λ e. e ≡ Memory → IsSigned bytes.now) }
 {
     root_in(alloc, bytes)
 }
