@@ -52,7 +52,8 @@ pub fn read_wanted(root: Root, bytes: &[u8], wanted: &[bool]) -> Result<Index, R
         → bytes.now ≡ wanted_bytes wanted.now 0 (map block_value root.blocks.items) all
         → Gives index_value result (index_at wanted.now (root_value root) all) }
     // Of any bytes it is as if the others had none.
-    ensures exact { Gives index_value result (index_at wanted.now (wanted_root wanted.now (root_value root)) bytes.now) }
+    ensures exact { Gives index_value result
+        (index_at wanted.now (wanted_root wanted.now (root_value root)) bytes.now) }
 {
     let Root { index, mut blocks } = root;
     leave_out(&mut blocks, wanted);

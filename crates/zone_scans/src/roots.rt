@@ -1,6 +1,7 @@
 //! How long the root of an index is.
 
-ghost use Rattle.std.specs.Prelude.{◌≡◌, ◌≢◌, ◌<◌, ◌≤◌, ◌+◌, ◌++◌, ◌^◌, ◌-◌, ℕ, List, Err, IfErr, IfOk, drop, length, min, take};
+ghost use Rattle.std.specs.Prelude.{◌≡◌, ◌≢◌, ◌<◌, ◌≤◌, ◌+◌, ◌++◌, ◌^◌, ◌-◌, ℕ};
+ghost use Rattle.std.specs.Prelude.{List, Err, IfErr, IfOk, drop, length, min, take};
 ghost use Rattle.std.specs.Int.{from_le_bytes, w32, w64};
 ghost use Rattle.zone_index.specs.Encoding.{RootValue, content_encoding, root_encoding};
 ghost use Rattle.zone_index.specs.EncodingReading.{root_at};
@@ -22,6 +23,7 @@ pub fn root_length(head: &[u8]) -> Result<u64, EncodingError>
     ensures long { IfOk result (λ n. (r : RootValue) (more rest : List ℕ) → length (content_encoding r) < 2 ^ 64
         → head.now ++ more ≡ root_encoding r ++ rest → n ≡ min (length (root_encoding r)) (2 ^ 64 - 1)) }
     ensures short { IfErr result (λ e. e ≡ Short → length head.now < 16) }
+    ensures few { length head.now < 16 → result ≡ Err Short }
     ensures enough { IfOk result (λ n. 16 ≤ length head.now) }
     ensures known { IfOk result (λ _. BeginsAsIndex head.now) }
     // Whatever follows, these are no bytes of an index.
