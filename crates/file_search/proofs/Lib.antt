@@ -1,4 +1,3 @@
 pub mod Columns
-pub mod OwnNames
 pub mod PlanLaws
 pub mod SoughtSteps

@@ -1,7 +1,7 @@
 -- What is sought, and why nothing is.
 use Rattle.std.proofs.Common.{◌≡◌, ◌≢◌, ◌≤◌, ◌+◌, ◌^◌, ℕ, List, Bool, Err, Ok, Result, subst}
 use Rattle.std.specs.Global.{Global}
-use Rattle.std.specs.Prelude.{IfErr, IfOk, Vec}
+use Rattle.std.specs.Prelude.{IfErr, IfOk, IsUtf8, Vec}
 use Rattle.csv_columns.specs.declared.setup.Setup.{Setup}
 use Rattle.filter_sql.specs.ColumnNames.{ColumnTree}
 use Rattle.record_rows.specs.declared.schema.Schema.{Schema}
@@ -27,11 +27,11 @@ use Rattle.file_search.specs.declared.sought.SoughtError.{SoughtError}
 use Rattle.file_search.specs.declared.sought.SoughtError.TheVariants as soughts
 
 -- words that are no filter
-pub unsought_of : (depth : ℕ) (text words : List ℕ) (setup : Setup) (trees : List ColumnTree) (e : SoughtError) → IsSetupOf text setup → trees ≡ trees_of_named setup.columns.items → NoFilterFor depth trees words e → IsUnsought depth text words e
-unsought_of depth text words setup trees soughts.NoMemory is same h = tt
-unsought_of depth text words setup trees soughts.NoSetup is same h = absurd h
-unsought_of depth text words setup trees soughts.NotUtf8 is same h = absurd h
-unsought_of depth text words setup trees (soughts.NoFilter cause) is same h = record { setup = setup; is = is; none = subst (λ (ts : List ColumnTree). NoFilterFor depth ts words (soughts.NoFilter cause)) same h }
+pub unsought_of : (depth : ℕ) (text words : List ℕ) (setup : Setup) (trees : List ColumnTree) (e : SoughtError) → IsSetupOf text setup → trees ≡ trees_of_named setup.columns.items → IsUtf8 words → NoFilterFor depth trees words e → IsUnsought depth text words e
+unsought_of depth text words setup trees soughts.NoMemory is same utf8 h = utf8
+unsought_of depth text words setup trees soughts.NoSetup is same utf8 h = absurd h
+unsought_of depth text words setup trees soughts.NotUtf8 is same utf8 h = absurd h
+unsought_of depth text words setup trees (soughts.NoFilter cause) is same utf8 h = record { setup = setup; is = is; none = subst (λ (ts : List ColumnTree). NoFilterFor depth ts words (soughts.NoFilter cause)) same h }
 
 -- blocks that end too far
 pub far_blocks : (blocks : List BlockValue) (start : ℕ) (e : ReadError) → (e ≢ reads.Memory → (e ≡ reads.Fault Short) × (2 ^ 64 ≤ start + length_of_blocks blocks)) → AreFarBlocks blocks start (error_of_blocks e)

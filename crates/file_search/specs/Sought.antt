@@ -1,13 +1,10 @@
 -- What is sought, by the text of a setup and by words.
 use Rattle.std.specs.Prelude.{◌≡◌, ◌≢◌, ℕ, List, IsUtf8, map, string_bytes}
-use Rattle.std.specs.Str.{str_to_ascii_lowercase}
 use Rattle.csv_columns.specs.Setups.{IsDelimiter, IsSchema, IsSetup, SetupValue, setup_text, setup_value}
 use Rattle.csv_columns.specs.declared.column_words.NamedColumn.{NamedColumn}
 use Rattle.csv_columns.specs.declared.setup.Setup.{Setup}
 use Rattle.filter_sql.specs.ColumnNames.{ColumnTree}
-use Rattle.filter_sql.specs.Parsing.{IsSqlWithin, RefusesSqlWithin}
-use Rattle.filter_sql.specs.declared.error.ParseError.{ParseError}
-use Rattle.filter_sql.specs.declared.error.ParseError.TheVariants.{OutOfMemory}
+use Rattle.filter_sql.specs.OwnNames.{AreRefused, IsFilterOf}
 use Rattle.record_rows.specs.Cells.{column_type}
 use Rattle.record_rows.specs.declared.schema.Schema.{Schema}
 use Rattle.record_search.specs.Searched.{decision_of}
@@ -41,33 +38,6 @@ IsUnread text (NoFilter cause) = ⊥
 
 -- ---- words
 
--- texts that differ in the case of letters alone
-abbrev pub AreSameButCase : List ℕ → List ℕ → Type 0
-AreSameButCase a b = str_to_ascii_lowercase a ≡ str_to_ascii_lowercase b
-
--- the formula is that of words that differ in the case of letters alone
-pub record IsOwnFilter (depth : ℕ) (columns : List ColumnTree) (words : List ℕ) (f : Formula) : Type 0 where
-  pub own : List ℕ
-  pub same : AreSameButCase words own
-  pub means : IsSqlWithin depth columns own f
-
--- and it is that of the words themselves, if they are a filter
-pub record IsFilterOf (depth : ℕ) (columns : List ColumnTree) (words : List ℕ) (f : Formula) : Type 0 where
-  pub own : IsOwnFilter depth columns words f
-  pub exact : (g : Formula) → IsSqlWithin depth columns words g → f ≡ g
-
--- words that differ in the case of letters alone are refused so, and those that are given are no filter
-pub record AreRefused (depth : ℕ) (columns : List ColumnTree) (words : List ℕ) (e : ParseError) : Type 0 where
-  pub own : List ℕ
-  pub same : AreSameButCase words own
-  pub refuses : RefusesSqlWithin depth columns own e
-  pub none : (g : Formula) → ¬ (IsSqlWithin depth columns words g)
-
--- why words are no filter: memory ran out, or they are refused so
-abbrev pub RefusesWords : ℕ → List ColumnTree → List ℕ → ParseError → Type 0
-RefusesWords depth columns words OutOfMemory = Unit {0}
-RefusesWords depth columns words e = AreRefused depth columns words e
-
 -- why there is no filter over these columns
 abbrev pub NoFilterFor : ℕ → List ColumnTree → List ℕ → SoughtError → Type 0
 NoFilterFor depth columns words NoMemory = Unit {0}
@@ -92,8 +62,8 @@ pub record IsNoFilter (depth : ℕ) (text words : List ℕ) (e : SoughtError) : 
 
 -- why nothing is sought: words that are not UTF-8 come first, and then the setup
 abbrev pub IsUnsought : ℕ → List ℕ → List ℕ → SoughtError → Type 0
-IsUnsought depth text words NoMemory = Unit {0}
-IsUnsought depth text words NoSetup = IsUnread text NoSetup
+IsUnsought depth text words NoMemory = IsUtf8 words
+IsUnsought depth text words NoSetup = IsUtf8 words × IsUnread text NoSetup
 IsUnsought depth text words NotUtf8 = ¬ (IsUtf8 words)
 IsUnsought depth text words (NoFilter cause) = IsNoFilter depth text words (NoFilter cause)
 

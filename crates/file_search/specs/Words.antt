@@ -1,8 +1,7 @@
 -- The words of this crate's clauses, from one place.
 pub use Rattle.csv_columns.specs.Setups.{IsSchema, setup_value}
 pub use Rattle.filter_sql.specs.ColumnNames.{column_tree, column_trees}
-pub use Rattle.filter_sql.specs.Parsing.{RefusesSqlWithin}
-pub use Rattle.filter_sql.specs.declared.error.ParseError.TheVariants.{NoColumn}
+pub use Rattle.filter_sql.specs.OwnNames.{IsFilterOf}
 pub use Rattle.record_search.specs.Refused.{RefusesRecord}
 pub use Rattle.record_search.specs.Searched.{is_refused, matches_record, records_under}
 pub use Rattle.vortex_filter.specs.Formula.{formula}
@@ -13,5 +12,5 @@ pub use Rattle.zone_scans.specs.Found.{IsSearched}
 pub use Rattle.zone_scans.specs.Planning.{is_read}
 pub use Rattle.zone_scans.specs.Ranges.{AreJoined, IsFarZone, bytes_of}
 pub use Rattle.file_search.specs.Plans.{AreBlocksFor, AreFarBlocks, AreNamedBlocks, IsPlanFor, IsRead, NoBlocksFor, NoPlanFor, NotRead, NothingIn, error_of_blocks, error_of_ranges}
-pub use Rattle.file_search.specs.Sought.{AreSameButCase, IsFilterOf, IsOwnFilter, IsSetupOf, IsSought, IsUnread, IsUnsought, NoFilterFor, RefusesWords, planned_rows, tree_of_named, trees_of_named}
+pub use Rattle.file_search.specs.Sought.{IsSetupOf, IsSought, IsUnread, IsUnsought, NoFilterFor, planned_rows, tree_of_named, trees_of_named}
 pub use Rattle.file_search.specs.declared.sought.SoughtError.TheVariants.{NoMemory, NoSetup}

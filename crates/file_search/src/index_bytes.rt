@@ -1,8 +1,10 @@
 //! An index in bytes: which pieces of it a filter needs, and the plan by these.
 
 ghost use Rattle.std.specs.Prelude.{◌≡◌, IfErr, IfOk, map};
-ghost use Rattle.file_search.specs.Words.{AreBlocksFor, AreFarBlocks, AreNamedBlocks, IsPlanFor, IsRead, IsSought, NoBlocksFor, NoPlanFor};
-ghost use Rattle.file_search.specs.Words.{NotRead, NothingIn, block_value, error_of_blocks, error_of_ranges, formula, root_value};
+ghost use Rattle.file_search.specs.Words.{AreBlocksFor, AreFarBlocks, AreNamedBlocks};
+ghost use Rattle.file_search.specs.Words.{IsPlanFor, IsRead, IsSought, NoBlocksFor, NoPlanFor};
+ghost use Rattle.file_search.specs.Words.{NotRead, NothingIn, block_value, error_of_blocks};
+ghost use Rattle.file_search.specs.Words.{error_of_ranges, formula, root_value};
 
 use crate::planning::{Plan, plan_search};
 use crate::sought::{Sought, SoughtError};

@@ -6,11 +6,9 @@
 
 mod index_bytes;
 pub mod laws;
-mod own_names;
 mod planning;
 mod sought;
 
 pub use index_bytes::{PlanError, blocks_to_read, plan_by_bytes, read_index_root};
-pub use own_names::filter_of_words;
 pub use planning::{Plan, find_rows_in, plan_search};
 pub use sought::{Sought, SoughtError};

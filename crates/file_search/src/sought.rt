@@ -5,9 +5,8 @@ ghost use Rattle.file_search.specs.Words.{AreMarked, IsFilterOf, IsSchema, IsSet
 ghost use Rattle.file_search.specs.Words.{NoFilterFor, NoMemory, NoSetup, column_trees, formula, setup_value};
 ghost use Rattle.file_search.specs.Words.{column_tree, tree_of_named, trees_of_named};
 
-use crate::own_names::filter_of_words;
 use csv_columns::{NamedColumn, Setup};
-use filter_sql::{Column, ParseError};
+use filter_sql::{Column, ParseError, filter_of_words};
 use record_rows::{Schema, dtype_of};
 use record_search::{RowFilter, named_columns};
 use std::alloc::{AllocError, AllocFailed, Global};
@@ -65,7 +64,8 @@ impl Sought {
         words: &str,
         depth: usize,
     ) -> Result<Sought, SoughtError>
-        ensures sought { IfOk result (λ sought. IsSought depth setup.now words.now sought.schema (formula sought.filter)) }
+        ensures sought { IfOk result (λ sought.
+            IsSought depth setup.now words.now sought.schema (formula sought.filter)) }
         ensures refused { IfErr result (IsUnsought depth setup.now words.now) }
     {
         let (setup, schema) = read_setup(alloc, setup)?;
@@ -80,7 +80,8 @@ impl Sought {
         words: &[u8],
         depth: usize,
     ) -> Result<Sought, SoughtError>
-        ensures sought { IfOk result (λ sought. IsSought depth setup.now words.now sought.schema (formula sought.filter)) }
+        ensures sought { IfOk result (λ sought.
+            IsSought depth setup.now words.now sought.schema (formula sought.filter)) }
         ensures refused { IfErr result (IsUnsought depth setup.now words.now) }
     {
         match str::from_utf8(words) {

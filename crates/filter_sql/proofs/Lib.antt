@@ -7,6 +7,7 @@ pub mod Cuts
 pub mod FitLaws
 pub mod Lexed
 pub mod NestLaws
+pub mod OwnNames
 pub mod ParseSteps
 pub mod Phrases
 pub mod PredicateFronts

@@ -6,6 +6,7 @@ pub mod Lexing
 pub mod LiteralWords
 pub mod Literals
 pub mod Mistakes
+pub mod OwnNames
 pub mod Parsing
 pub mod Pieces
 pub mod Printing

@@ -314,7 +314,7 @@ fn name(alloc: Global, text: &str, count: usize) -> Result<(Token, &str), LexErr
 }
 
 /// How many bytes of a word stand first.
-fn word_len(text: &[u8]) -> usize
+pub(crate) fn word_len(text: &[u8]) -> usize
     ensures { result ≡ prefix_len is_word_byte text.now }
 {
     text.iter().take_while(|byte| is_word_byte(**byte)).count()

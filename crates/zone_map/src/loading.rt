@@ -4,10 +4,10 @@ use crate::column_lists::columns_text;
 use crate::file_searches::FileSearch;
 use crate::files::{index_name, stamp_of};
 use crate::index_files::{IndexError, IndexFile};
-use crate::matching::{in_own_case, nearest_name};
+use crate::matching::nearest_name;
 use crate::program_errors::{About, BAD_DELIMITER, BadFilter, FileError, ProgramError};
 use csv_columns::Setup;
-use filter_sql::{Column, ParseError, parse};
+use filter_sql::{Column, MAX_DEPTH, ParseError, filter_of_words};
 use record_rows::{Schema, dtype_of};
 use record_search::{RowDescriber, RowFilter};
 use std::alloc::{AllocError, Global};
@@ -217,20 +217,7 @@ impl Sought {
 /// one that has it in another case.
 fn filter_in(alloc: Global, setup: &Setup, text: &str) -> Result<Filter, ProgramError> {
     let columns = filter_columns(alloc, setup)?;
-    let mut own = String::from_str(alloc, text)?;
-    for _ in 0..text.len() {
-        match parse(alloc, &own, &columns) {
-            Err(ParseError::NoColumn { offset }) => {
-                match in_own_case(alloc, &own, offset, &columns)? {
-                    Some(other) => own = other,
-                    None => break,
-                }
-            }
-            Err(error) => return Err(filter_fault(alloc, setup, text, &columns, error)),
-            Ok(filter) => return Ok(filter),
-        }
-    }
-    match parse(alloc, &own, &columns) {
+    match filter_of_words(alloc, text, &columns, MAX_DEPTH) {
         Ok(filter) => Ok(filter),
         Err(error) => Err(filter_fault(alloc, setup, text, &columns, error)),
     }

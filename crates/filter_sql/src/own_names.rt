@@ -1,11 +1,12 @@
 //! Filters in which a name may stand in another case than its column's.
 
-ghost use Rattle.std.specs.Prelude.{◌≡◌, ◌++◌, IfErr, IfOk, IfSome, string_bytes};
-ghost use Rattle.file_search.specs.Words.{AreSameButCase, IsFilterOf, RefusesSqlWithin, RefusesWords, column_trees};
-ghost use Rattle.file_search.specs.Words.{IsOwnFilter, NoColumn, formula};
+ghost use Rattle.std.specs.Prelude.{◌≢◌, [], IfErr, IfOk, IfSome, string_bytes};
+ghost use Rattle.filter_sql.specs.Words.{IsFilterOf, IsOnlyName, IsOwnFilter, IsRenamed, IsWordIn, NoColumn};
+ghost use Rattle.filter_sql.specs.Words.{RefusesSqlWithin, RefusesWords, column_trees, formula};
 
-use filter_sql::laws::texts_say_one_filter;
-use filter_sql::{Column, ParseError, parse_within};
+use crate::laws::texts_say_one_filter;
+use crate::lex::word_len;
+use crate::{Column, ParseError, parse_within};
 use std::alloc::{AllocError, Global};
 use vortex_filter::Filter;
 
@@ -67,12 +68,13 @@ fn in_own_case(
     offset: usize,
     columns: &[Column],
 ) -> Result<Option<String>, AllocError>
-    ensures { IfOk result (λ found. IfSome found (λ own. AreSameButCase words.now (string_bytes own))) }
+    ensures { IfOk result (λ found. IfSome found (λ own.
+        IsRenamed (column_trees columns.now) words.now offset (string_bytes own))) }
 {
-    let Some((before, name, after)) = name_at(words, offset) else {
+    let Some((before, word, after)) = word_in(words, offset) else {
         return Ok(None);
     };
-    let Some(own) = only_name(name, columns) else {
+    let Some(own) = only_name(word, columns) else {
         return Ok(None);
     };
     let mut text = String::from_str(alloc, before)?;
@@ -81,26 +83,25 @@ fn in_own_case(
     Ok(Some(text))
 }
 
-/// What stands before a name without quotes at this offset, the name, and what follows it. In quotes a name
-/// is that of a column as it stands.
-fn name_at(words: &str, offset: usize) -> Option<(&str, &str, &str)>
-    ensures { IfSome result (λ parts. words.now ≡ parts.0.now ++ (parts.1.now ++ parts.2.now)) }
+/// What stands before the word at this offset, the word, and what follows it; `None` if no word begins there.
+/// In quotes a name is that of a column as it stands.
+pub fn word_in(words: &str, offset: usize) -> Option<(&str, &str, &str)>
+    ensures word { IfSome result (λ parts.
+        IsWordIn words.now offset parts.0.now parts.1.now parts.2.now) }
+    ensures some { IfSome result (λ parts. parts.1.now ≢ []) }
 {
     let (before, rest) = words.split_at_checked(offset)?;
-    let count = rest
-        .bytes()
-        .take_while(|byte| byte.is_ascii_alphanumeric() || *byte == b'_')
-        .count();
+    let count = word_len(rest.as_bytes());
     if count == 0 {
         return None;
     }
-    let (name, after) = rest.split_at_checked(count)?;
-    Some((before, name, after))
+    let (word, after) = rest.split_at_checked(count)?;
+    Some((before, word, after))
 }
 
 /// The name of the one column that has this name in another case.
 fn only_name<'a>(name: &str, columns: &'a [Column]) -> Option<&'a str>
-    ensures { IfSome result (λ own. AreSameButCase name.now own.now) }
+    ensures { IfSome result (λ own. IsOnlyName (column_trees columns.now) name.now own.now) }
 {
     let mut found = None;
     for column in columns {

@@ -5,8 +5,8 @@ use Rattle.filter_sql.specs.ColumnNames.{column_trees}
 use Rattle.filter_sql.specs.Parsing.{RefusesSqlWithin}
 use Rattle.filter_sql.specs.declared.error.ParseError.TheVariants.{NoColumn}
 use Rattle.vortex_filter.specs.Formula.{formula}
-use Rattle.file_search.proofs.OwnNames.{all_by_case, read_exactly, refused_exactly}
-use Rattle.file_search.proofs.own_names.filter_of_words.Goals as goal
+use Rattle.filter_sql.proofs.OwnNames.{all_by_case, read_exactly, refused_exactly}
+use Rattle.filter_sql.proofs.own_names.filter_of_words.Goals as goal
 
 pub returns-in-Ok-clause-read : goal.returns-in-Ok-clause-read
 returns-in-Ok-clause-read c = read_exactly c.texts_say_one_filter.ensures.one c.args.depth (column_trees c.args.columns.now) c.args.words.now (formula c.in-Ok.filter) c.in-Ok.ensures.read
