@@ -6,7 +6,7 @@ use Rattle.std.specs.Prelude.{All, AllPairs, Err, IfOk, MatchBool, Ok, Result, s
 use Rattle.std.specs.Global.{Global}
 use Rattle.std.specs.declared.string.String.{String}
 use Rattle.record_rows.specs.Readings.{Reading}
-use Rattle.csv_columns.specs.Guesses.{AreColumns, NamesOthers, TakeFields, column_count, column_names, column_words, divides, field_lists, header_names}
+use Rattle.csv_columns.specs.Guesses.{AreColumns, HaveNumbers, NamesOthers, TakeFields, column_count, column_names, column_words, divides, field_lists, header_names}
 use Rattle.csv_columns.specs.Names.{AreGivenOrMade, IsName, KeepsNames, texts}
 use Rattle.csv_columns.specs.Setups.{HaveNames, column_values}
 use Rattle.csv_columns.specs.declared.column_words.NamedColumn.{NamedColumn}
@@ -48,6 +48,12 @@ guessed_from d nulls header records reading columns strict words count valid dis
       columns_are = subst (λ (r : Reading). AreColumns (column_words r (field_lists d records)) columns) is are;
       take_fields = subst (λ (r : Reading). TakeFields r (field_lists d records) columns) is takes;
     }
+
+pub numbers_of : (d : ℕ) (nulls : List (List ℕ)) (records : List ℕ) (reading : Reading) (flags : List Bool) → reading.is_lenient ≡ false → reading.nulls ≡ nulls
+    → HaveNumbers (column_words reading (field_lists d records)) flags → HaveNumbers (column_words (reading_with nulls) (field_lists d records)) flags
+numbers_of d nulls records reading flags strict words have =
+    let is : reading ≡ reading_with nulls = ap₂ (λ (b : Bool) (n : List (List ℕ)). record { is_lenient = b; nulls = n }) strict words in
+    subst (λ (r : Reading). HaveNumbers (column_words r (field_lists d records)) flags) is have
 
 pub written_back : {A : Type 0} (h : A → A) (items new : List A) (len : ℕ) → len ≡ length items → new ≡ map h items → take len (new ++ drop (length new) items) ≡ map h items
 written_back {A} h items new len long is =

@@ -1,7 +1,9 @@
 //! The columns of a file: those that are given, and those that are guessed.
 
-ghost use Rattle.std.specs.Prelude.{◌≡◌, IfOk, MatchBool, map};
-ghost use Rattle.setup_guessing.specs.Columns.{AreColumnsFor, AreGuessedWith, NeedsGuesses, column_for, with_given};
+ghost use Rattle.std.specs.Prelude.{◌≡◌, IfOk, MatchBool, length, map};
+ghost use Rattle.setup_guessing.specs.Columns.{AreColumnsFor, AreGuessedWith, NeedsGuesses, column_for};
+ghost use Rattle.setup_guessing.specs.Columns.{reading_with, with_given};
+ghost use Rattle.csv_columns.specs.Guesses.{HaveNumbers, column_words, field_lists};
 ghost use Rattle.csv_columns.specs.Names.{texts};
 
 use csv_columns::{Guessed, NamedColumn, guess_columns, names_others, reading_of};
@@ -23,14 +25,16 @@ pub(crate) fn columns_for(
         AreColumnsFor delimiter.byte (texts nulls.now) header.now records.now given.items columns.items) }
 {
     if needs_guesses(alloc, delimiter, header, &given)? {
-        guess_others(alloc, delimiter, nulls, header, records, &given)
+        let guessed = guess_others(alloc, delimiter, nulls, header, records, &given)?;
+        Ok(guessed.columns)
     } else {
         Ok(given)
     }
 }
 
-/// Whether other columns than those that are given are to be guessed.
-fn needs_guesses(
+/// Whether other columns than those that are given are to be guessed: if none is given, or if the header names
+/// each that is given and more.
+pub fn needs_guesses(
     alloc: Global,
     delimiter: Delimiter,
     header: &[u8],
@@ -45,25 +49,27 @@ fn needs_guesses(
     names_others(alloc, delimiter, header, given)
 }
 
-/// The columns that are guessed, but for what is given of them.
-fn guess_others(
+/// The columns that are guessed, but for what is given of them. Whether words are numbers that are text all the
+/// same is said of each as it was guessed.
+pub fn guess_others(
     alloc: Global,
     delimiter: Delimiter,
     nulls: &[String],
     header: &[u8],
     records: &[u8],
     given: &[NamedColumn],
-) -> Result<Vec<NamedColumn>, AllocError>
-    ensures { IfOk result (λ columns.
-        AreGuessedWith delimiter.byte (texts nulls.now) header.now records.now given.now columns.items) }
+) -> Result<Guessed, AllocError>
+    ensures columns { IfOk result (λ guessed. AreGuessedWith delimiter.byte (texts nulls.now) header.now records.now
+        given.now guessed.columns.items) }
+    ensures numbers { IfOk result (λ guessed. HaveNumbers
+        (column_words (reading_with (texts nulls.now)) (field_lists delimiter.byte records.now))
+        guessed.have_numbers.items) }
+    ensures flags { IfOk result (λ guessed. length guessed.have_numbers.items ≡ length guessed.columns.items) }
 {
     let reading = reading_of(alloc, false, nulls)?;
-    let Guessed {
-        mut columns,
-        have_numbers: _,
-    } = guess_columns(alloc, delimiter, &reading, header, records)?;
-    keep_given(given, &mut columns);
-    Ok(columns)
+    let mut guessed = guess_columns(alloc, delimiter, &reading, header, records)?;
+    keep_given(given, &mut guessed.columns);
+    Ok(guessed)
 }
 
 /// Gives back to each column that is given what it takes.

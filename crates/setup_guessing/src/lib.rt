@@ -8,4 +8,5 @@ mod columns;
 mod records;
 mod setups;
 
+pub use columns::{guess_others, needs_guesses};
 pub use setups::{GUESSED_FROM, GuessedSetup, GuessedText, guess_setup, guess_setup_text};

@@ -2,6 +2,7 @@
 
 use crate::program_errors::{About, ProgramError};
 use csv_columns::{NamedColumn, column_of, is_name, push_kind};
+use record_rows::{ColumnType, Kind};
 use std::alloc::{AllocError, Global};
 use std::fmt::{self, Display, Formatter, Write};
 
@@ -131,14 +132,42 @@ fn name_in(alloc: Global, text: &str) -> Result<Option<String>, AllocError> {
 /// The columns as a text that `columns_in` reads.
 pub fn columns_text(alloc: Global, columns: &[NamedColumn]) -> Result<String, AllocError> {
     let mut text = String::new(alloc);
-    for (place, named) in columns.iter().enumerate() {
-        if place > 0 {
-            text.push_str(", ")?;
-        }
-        write!(text, "{} ", NameText(&named.name))?;
-        push_kind(&mut text, named.column)?;
+    for named in columns {
+        push_column(&mut text, &named.name, named.column)?;
     }
     Ok(text)
+}
+
+/// The columns that are to be given so that the one at this place is of another kind. All are to be given if its
+/// name was made, since no header has such a name.
+pub fn columns_with(
+    alloc: Global,
+    columns: &[NamedColumn],
+    place: usize,
+    kind: Kind,
+) -> Result<String, AllocError> {
+    let mut text = String::new(alloc);
+    let is_made = columns
+        .get(place)
+        .is_some_and(|named| named.name.starts_with('$'));
+    for (at, named) in columns.iter().enumerate() {
+        let column = named.column;
+        if at == place {
+            push_column(&mut text, &named.name, ColumnType { kind, ..column })?;
+        } else if is_made {
+            push_column(&mut text, &named.name, column)?;
+        }
+    }
+    Ok(text)
+}
+
+/// Adds a column to a list.
+fn push_column(text: &mut String, name: &str, column: ColumnType) -> Result<(), AllocError> {
+    if !text.is_empty() {
+        text.push_str(", ")?;
+    }
+    write!(text, "{} ", NameText(name))?;
+    push_kind(text, column)
 }
 
 /// A name as `columns_in` reads it: in quotes unless it has letters, digits, `_` and `$` alone.

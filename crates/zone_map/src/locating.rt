@@ -1,10 +1,14 @@
 //! Where a record stands that has no row.
 
+use crate::column_lists::columns_with;
 use crate::program_errors::{About, BadRecord, ProgramError, RecordPlace};
 use csv_columns::NamedColumn;
+use record_rows::Kind;
+use std::alloc::{AllocError, Global};
 use std::fs::File;
 use std::io::{self, Read};
-use zone_index::SearchError;
+use std::str;
+use zone_index::{Cause, SearchError};
 
 /// How many bytes are read at a time.
 const PIECE: usize = 65536;
@@ -24,14 +28,43 @@ pub fn located(
                 RecordPlace::Line { file: _, line: _ } => About::NamedFile,
                 RecordPlace::Byte(_) => About::File,
             };
-            let bad = BadRecord {
-                place,
-                columns,
-                cause: &refusal.cause,
-            };
-            ProgramError::made(about, format!(in rt.alloc(); "{bad}"))
+            let text = bad_record(rt.alloc(), place, columns, &refusal.cause);
+            ProgramError::made(about, text)
         }
         _ => ProgramError::of_search(fault),
+    }
+}
+
+/// What is said of a record without a row.
+fn bad_record<'a>(
+    alloc: Global,
+    place: RecordPlace<'a>,
+    columns: &'a [NamedColumn],
+    cause: &'a Cause,
+) -> Result<String, AllocError> {
+    let taking = match cause {
+        Cause::Word { column, word } => columns_with(
+            alloc,
+            columns,
+            *column as usize,
+            kind_taking(word),
+        )?,
+        _ => String::new(alloc),
+    };
+    let bad = BadRecord {
+        place,
+        columns,
+        cause,
+        taking: &taking,
+    };
+    format!(in alloc; "{bad}")
+}
+
+/// The kind of a column that takes a word: text, or its bytes if it is no UTF-8.
+fn kind_taking(word: &[u8]) -> Kind {
+    match str::from_utf8(word) {
+        Ok(_) => Kind::Utf8,
+        Err(_) => Kind::Bytes,
     }
 }
 

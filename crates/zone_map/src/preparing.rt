@@ -1,21 +1,17 @@
 //! The beginning of a stream is read, which says how its records are read.
 
-use crate::column_lists::{NameText, columns_in, columns_text};
+use crate::column_lists::{NameText, columns_in, columns_text, columns_with};
 use crate::commands::Reading;
 use crate::program_errors::{About, BAD_DELIMITER, ProgramError};
-use csv_columns::{
-    Guessed, NO_DELIMITER, NamedColumn, Numbers, Setup, guess_columns, is_line, names_others,
-    reading_of,
-};
+use csv_columns::{Guessed, NO_DELIMITER, NamedColumn, Numbers, Setup, is_line};
 use csv_records::Delimiter;
-use record_rows::ColumnType;
+use logical_types::LogicalType;
+use record_rows::Kind;
+use setup_guessing::{GUESSED_FROM, guess_others, needs_guesses};
 use std::alloc::{AllocError, Global};
 use std::fmt::Write;
 use std::io::BufRead;
 use zone_index::{SearchError, take_records};
-
-/// How many records columns are guessed from.
-const GUESSED_FROM: u64 = 1000;
 
 /// The first records of a stream, which were read, and how all are to be read.
 #[derive(Drop)]
@@ -43,11 +39,11 @@ pub fn prepare<B: BufRead>(
     };
     let header = first_records(alloc, delimiter, u64::from(reading.has_header), reader)?;
     let nulls = null_words(alloc, &reading.nulls)?;
-    let guesses = guesses_others(alloc, reading, delimiter, &header, &given)?;
+    let guesses = needs_guesses(alloc, delimiter, &header, &given)?;
     let guessed_from = if guesses { GUESSED_FROM } else { 0 };
     let first = first_records(alloc, delimiter, guessed_from, reader)?;
     let (columns, told) = if guesses {
-        with_guessed(alloc, delimiter, &nulls, &header, &first, given)?
+        with_guessed(alloc, delimiter, &nulls, &header, &first, &given)?
     } else {
         (given, None)
     };
@@ -109,21 +105,6 @@ fn first_records<B: BufRead>(
     Ok(text)
 }
 
-/// Whether other columns than those that are given are to be guessed: if none are given; and if each that is
-/// given has a name of the header, which has more.
-fn guesses_others(
-    alloc: Global,
-    reading: &Reading<'_>,
-    delimiter: Delimiter,
-    header: &[u8],
-    given: &[NamedColumn],
-) -> Result<bool, AllocError> {
-    if reading.columns.is_none() {
-        return Ok(true);
-    }
-    names_others(alloc, delimiter, header, given)
-}
-
 /// The columns that are guessed, but for those that are given, and what is to be told of them.
 fn with_guessed(
     alloc: Global,
@@ -131,51 +112,35 @@ fn with_guessed(
     nulls: &[String],
     header: &[u8],
     first: &[u8],
-    given: Vec<NamedColumn>,
+    given: &[NamedColumn],
 ) -> Result<(Vec<NamedColumn>, Option<String>), AllocError> {
     let Guessed {
-        mut columns,
+        columns,
         have_numbers,
-    } = guess_columns(
-        alloc,
-        delimiter,
-        &reading_of(alloc, false, nulls)?,
-        header,
-        first,
-    )?;
-    let mut notes = String::new(alloc);
-    for (place, guessed) in columns.iter_mut().enumerate() {
-        let has_numbers = have_numbers.get(place).copied().unwrap_or(false);
-        match column_named(&given, &guessed.name) {
-            Some(column) => guessed.column = column,
-            None => {
-                if has_numbers {
-                    add_note(&guessed.name, &mut notes)?;
-                }
-            }
+    } = guess_others(alloc, delimiter, nulls, header, first, given)?;
+    let mut told = columns_text(alloc, &columns)?;
+    for (place, (named, has_numbers)) in columns.iter().zip(&have_numbers).enumerate() {
+        if *has_numbers && given.iter().all(|column| column.name != named.name) {
+            add_note(alloc, &columns, place, &named.name, &mut told)?;
         }
     }
-    let mut told = columns_text(alloc, &columns)?;
-    told.push_str(&notes)?;
     Ok((columns, Some(told)))
 }
 
-/// What the column of this name takes, if there is one.
-fn column_named(columns: &[NamedColumn], name: &str) -> Option<ColumnType> {
-    for named in columns {
-        if named.name.as_str() == name {
-            return Some(named.column);
-        }
-    }
-    None
-}
-
-/// Adds what is told of a column whose words are numbers, and that is text all the same.
-fn add_note(name: &str, notes: &mut String) -> Result<(), AllocError> {
+/// Adds what is told of a column, of this name and at this place, whose words are numbers, and that is text
+/// all the same.
+fn add_note(
+    alloc: Global,
+    columns: &[NamedColumn],
+    place: usize,
+    name: &str,
+    notes: &mut String,
+) -> Result<(), AllocError> {
     let name = NameText(name);
+    let taking = columns_with(alloc, columns, place, Kind::Logical(LogicalType::Float64))?;
     write!(
         notes,
-        "\nthe words of {name} are numbers, and taken as text; --columns '{name} f64?' takes them as numbers"
+        "\nthe words of {name} are numbers, and taken as text; --columns '{taking}' takes them as numbers"
     )?;
     Ok(())
 }

@@ -1,6 +1,5 @@
 //! Why the program stops.
 
-use crate::column_lists::NameText;
 use csv_columns::NamedColumn;
 use filter_sql::ParseError;
 use std::alloc::{AllocError, AllocFailed, Global};
@@ -260,6 +259,8 @@ pub struct BadRecord<'a> {
     pub columns: &'a [NamedColumn],
     /// Why it has none.
     pub cause: &'a Cause,
+    /// The columns that take it, if one does not take a word.
+    pub taking: &'a str,
 }
 
 /// Where a record stands.
@@ -279,7 +280,10 @@ impl Display for BadRecord<'_> {
             RecordPlace::Byte(place) => write!(f, "byte {place}: ")?,
         }
         match self.cause {
-            Cause::Word { column, word } => write_bad_word(f, self.columns, *column, word),
+            Cause::Word { column, word } => {
+                write_bad_word(f, self.columns, *column, word)?;
+                write_ways_out(f, self.columns.get(*column as usize), self.taking, word)
+            }
             Cause::FieldCount => write!(
                 f,
                 "the record has fewer fields than the {} columns, or more; \
@@ -305,28 +309,28 @@ fn write_bad_word<W: Write>(
         write!(f, ", {},", named.name)?;
     }
     f.write_str(" does not take ")?;
-    write_word(f, word)?;
-    match columns.get(column as usize) {
-        Some(named) => write_ways_out(f, named, word),
-        None => Ok(()),
-    }
+    write_word(f, word)
 }
 
-/// Writes what takes a word that a column does not: a column of text, or of bytes if the word is no UTF-8,
-/// or a null in its place.
-fn write_ways_out<W: Write>(f: &mut Formatter<W>, named: &NamedColumn, word: &[u8]) -> fmt::Result {
-    let (kind, taken) = match str::from_utf8(word) {
-        Ok(_) => ("utf8", "text"),
-        Err(_) => ("bytes", "its bytes"),
+/// Writes what takes a word that a column does not: columns that are given, or a null in its place.
+fn write_ways_out<W: Write>(
+    f: &mut Formatter<W>,
+    column: Option<&NamedColumn>,
+    taking: &str,
+    word: &[u8],
+) -> fmt::Result {
+    let Some(named) = column else {
+        return Ok(());
     };
-    let takes_null = named.column.nullability == Nullability::Nullable;
-    let mark = if takes_null { "?" } else { "" };
-    let name = NameText(&named.name);
-    write!(f, "; --columns '{name} {kind}{mark}' takes it as {taken}")?;
-    if takes_null {
-        f.write_str("; --lenient takes it as a null")?;
+    let taken = match str::from_utf8(word) {
+        Ok(_) => "text",
+        Err(_) => "its bytes",
+    };
+    write!(f, "; --columns '{taking}' takes it as {taken}")?;
+    match named.column.nullability {
+        Nullability::Nullable => f.write_str("; --lenient takes it as a null"),
+        Nullability::NonNullable => Ok(()),
     }
-    Ok(())
 }
 
 /// Writes a word: as text in quotes where it is UTF-8, else as hexadecimal digits.
