@@ -8,13 +8,13 @@ use crate::watching::Watched;
 use record_search::{count_rows, find_rows};
 use std::alloc::Global;
 use std::fs::File;
-use std::io::{BufRead, BufReader};
+use std::io::BufReader;
 use zone_index::{
-    Index, Logged, Matcher, Position, SearchError, Sink, Tally, count_rest, find_rest, number_after,
+    Index, Logged, Position, SearchError, Sink, Tally, count_rest, find_rest, number_after,
 };
 
 /// How many records of a stream are in memory at a time.
-const PIECE: u64 = 1000;
+pub const PIECE: u64 = 1000;
 
 /// What was found by an index.
 #[derive(Clone, Copy)]
@@ -78,7 +78,7 @@ pub fn find_indexed<S: Sink>(
             let number = number_after(first, &index.zones);
             let mut file = watched_from(alloc, &reader.reader, place)?;
             let start = Position { place, number };
-            let rows = find_stream(alloc, start, &sought.matcher(), &mut file, sink)?;
+            let rows = find_rest(alloc, PIECE, start, &sought.matcher(), &mut file, sink)?;
             FoundNew {
                 rows,
                 bytes: file.get_ref().count,
@@ -115,7 +115,7 @@ pub fn count_indexed(
     let new = match rest {
         Some(place) => {
             let mut file = watched_from(alloc, &reader.reader, place)?;
-            let rows = count_stream(alloc, place, &sought.matcher(), &mut file)?;
+            let rows = count_rest(alloc, PIECE, place, &sought.matcher(), &mut file)?;
             FoundNew {
                 rows,
                 bytes: file.get_ref().count,
@@ -128,26 +128,4 @@ pub fn count_indexed(
         rows: rows.saturating_add(new.rows),
         new_bytes: new.bytes,
     })
-}
-
-/// Gives a sink the records of a stream that match, and says how many they are. The first one
-/// stands here.
-pub fn find_stream<M: Matcher, B: BufRead, S: Sink>(
-    alloc: Global,
-    start: Position,
-    matcher: &M,
-    reader: &mut B,
-    sink: &mut S,
-) -> Result<u64, SearchError> {
-    find_rest(alloc, PIECE, start, matcher, reader, sink)
-}
-
-/// Counts the records of a stream that match, the first of which stands at this offset.
-pub fn count_stream<M: Matcher, B: BufRead>(
-    alloc: Global,
-    start: u64,
-    matcher: &M,
-    reader: &mut B,
-) -> Result<u64, SearchError> {
-    count_rest(alloc, PIECE, start, matcher, reader)
 }

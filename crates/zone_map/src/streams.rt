@@ -2,7 +2,7 @@
 
 ghost use Rattle.std.specs.Prelude.{◌≡◌};
 
-use crate::answering::{count_stream, find_stream, first_row};
+use crate::answering::{PIECE, first_row};
 use crate::file_searches::{FileSearch, Form};
 use crate::lines::{Front, KnownFront, LineSink};
 use crate::loading::Sought;
@@ -15,7 +15,7 @@ use std::alloc::Global;
 use std::io::{BufRead, BufWriter, Read, Stdout};
 use std::marker::Brand;
 use vortex_dtype::Nullability;
-use zone_index::{Matcher, NumberedSink, PlainSink, SearchError, Sink};
+use zone_index::{Matcher, NumberedSink, PlainSink, SearchError, Sink, count_rest, find_rest};
 
 /// Answers a search of a whole stream, and says how many rows match.
 pub fn search_stream<B: BufRead>(
@@ -48,7 +48,7 @@ fn answer_stream<M: Matcher, B: BufRead>(
 ) -> Result<u64, SearchError> {
     let alloc = rt.alloc();
     match search.form() {
-        Form::Count => count_stream(alloc, start, matcher, reader),
+        Form::Count => count_rest(alloc, PIECE, start, matcher, reader),
         Form::Rows => write_stream(
             alloc,
             matcher,
@@ -96,7 +96,7 @@ fn write_stream<M: Matcher, B: BufRead, S: Sink + Drop>(
     reader: &mut B,
     mut sink: S,
 ) -> Result<u64, SearchError> {
-    let found = find_stream(alloc, first_row(start), matcher, reader, &mut sink);
+    let found = find_rest(alloc, PIECE, first_row(start), matcher, reader, &mut sink);
     flushed(found, sink.flush())
 }
 
