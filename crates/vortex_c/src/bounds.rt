@@ -6,6 +6,7 @@ ghost use Rattle.vortex_c.specs.Words.{AnswersUpper, HasNoTextUpper, HasNoUpper,
 ghost use Rattle.vortex_c.specs.Words.{IsTextUpper, IsUpper, IsWholeOrBest, OutOfMemory, bytes_of, option_copied};
 ghost use Rattle.vortex_c.specs.Words.{option_map};
 
+use crate::giving::give;
 use crate::status::{BUFFER_TOO_SMALL, GIVEN, NO_MEMORY, NONE, NOT_UTF8};
 use std::alloc::Global;
 use std::str;
@@ -199,26 +200,5 @@ pub(crate) fn upper_of_text<'a>(
     match beginning.upper_bound(alloc, end)? {
         Some(bound) => Ok(Some(Upper::Cut(bound.into_inner()))),
         None => Ok(None),
-    }
-}
-
-/// Writes the bound to the buffer, and its length; only the length if the buffer is too small.
-pub(crate) fn give(bound: &[u8], buffer: &mut [u8], count: &mut usize) -> u32
-    ensures statuses { (result ≡ GIVEN) ⊎ (result ≡ BUFFER_TOO_SMALL) }
-    ensures count { count.new ≡ length bound.now }
-    ensures within { result ≡ GIVEN → length bound.now ≤ length buffer.old }
-    ensures given { result ≡ GIVEN → take (length bound.now) buffer.new ≡ bound.now }
-    ensures rest { result ≡ GIVEN
-        → drop (length bound.now) buffer.new ≡ drop (length bound.now) buffer.old }
-    ensures small { result ≡ BUFFER_TOO_SMALL → length buffer.old < length bound.now }
-    ensures kept { result ≢ GIVEN → buffer.new ≡ buffer.old }
-{
-    let needed = bound.len();
-    *count = needed;
-    if needed <= buffer.len() {
-        buffer[..needed].copy_from_slice(bound);
-        GIVEN
-    } else {
-        BUFFER_TOO_SMALL
     }
 }

@@ -12,6 +12,7 @@ mod column_casts;
 mod depth;
 mod fault;
 mod filters;
+mod giving;
 mod integers;
 mod keys;
 mod keys_back;

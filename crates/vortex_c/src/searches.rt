@@ -7,7 +7,7 @@ ghost use Rattle.vortex_c.specs.SearchWords.{SaysWhyNoPlan, SaysWhyNoRoot, SaysW
 ghost use Rattle.vortex_c.specs.SearchWords.{IsFoundIn, SaysWhyRefused, ZoneParts, formula, index_parts};
 ghost use Rattle.vortex_c.specs.SearchWords.{purpose_of, root_value, zone_parts};
 
-use crate::bounds::give;
+use crate::giving::give;
 use crate::search_faults::{SearchFault, tell_plan, tell_root, tell_search, tell_sought};
 use crate::status::{BUFFER_TOO_SMALL, GIVEN};
 use file_search::{Plan, Sought, blocks_to_read, find_rows_in, plan_by_bytes, read_index_root};
@@ -165,29 +165,8 @@ pub extern "C" fn doqallin_search_blocks(
     ensures kept_fault { HasAnswer result → fault.new ≡ fault.old }
 {
     match blocks_to_read(alloc, root, words, depth) {
-        Ok(blocks) => give_ranges(blocks.as_slice(), ranges, count),
+        Ok(blocks) => give(blocks.as_slice(), ranges, count),
         Err(cause) => tell_plan(cause, fault),
-    }
-}
-
-/// Writes ranges to a buffer, and how many they are; only that if the buffer is too small.
-fn give_ranges(ranges: &[ByteRange], buffer: &mut [ByteRange], count: &mut usize) -> u32
-    ensures statuses { (result ≡ GIVEN) ⊎ (result ≡ BUFFER_TOO_SMALL) }
-    ensures count { count.new ≡ length ranges.now }
-    ensures within { result ≡ GIVEN → length ranges.now ≤ length buffer.old }
-    ensures given { result ≡ GIVEN → take (length ranges.now) buffer.new ≡ ranges.now }
-    ensures rest { result ≡ GIVEN
-        → drop (length ranges.now) buffer.new ≡ drop (length ranges.now) buffer.old }
-    ensures small { result ≡ BUFFER_TOO_SMALL → length buffer.old < length ranges.now }
-    ensures kept { result ≢ GIVEN → buffer.new ≡ buffer.old }
-{
-    let needed = ranges.len();
-    *count = needed;
-    if needed <= buffer.len() {
-        buffer[..needed].copy_from_slice(ranges);
-        GIVEN
-    } else {
-        BUFFER_TOO_SMALL
     }
 }
 
@@ -273,7 +252,7 @@ fn give_plan(
     if zones.len() < lengths.zones {
         return BUFFER_TOO_SMALL;
     }
-    let status = give_ranges(plan.ranges.as_slice(), ranges, &mut lengths.ranges);
+    let status = give(plan.ranges.as_slice(), ranges, &mut lengths.ranges);
     if status == GIVEN {
         put_zones(plan.zones.as_slice(), zones);
     }

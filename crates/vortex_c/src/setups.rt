@@ -4,7 +4,7 @@ ghost use Rattle.std.specs.Prelude.{◌≡◌, ◌⊎◌};
 ghost use Rattle.vortex_c.specs.EncodingAnswers.{AnswersEncoding, HasAnswer};
 ghost use Rattle.vortex_c.specs.Setups.{IsGuessedText, SaysWhyNotGuessed};
 
-use crate::bounds::give;
+use crate::giving::give;
 use crate::search_faults::SearchFault;
 use crate::status::{BAD_BYTES, NO_MEMORY};
 use setup_guessing::guess_setup_text;

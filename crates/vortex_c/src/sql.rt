@@ -10,8 +10,8 @@ ghost use Rattle.vortex_c.specs.FilterWords.{kind_of_named, mistake_of_sql, part
 ghost use Rattle.vortex_c.specs.FilterWords.{status_of_sql, tree_of_kind, trees_of_kinds, type_at, type_of};
 ghost use Rattle.vortex_c.specs.FilterWords.{type_of_kind, types_of_kinds};
 
-use crate::bounds::give;
 use crate::depth::encoding_depth;
+use crate::giving::give;
 use crate::status::{BAD_FILTER, BUFFER_TOO_SMALL, GIVEN, NO_MEMORY, NOT_UTF8, UNKNOWN_KIND};
 use arrow_columns::Kind;
 use column_cells::dtype_of;

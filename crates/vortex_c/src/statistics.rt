@@ -5,8 +5,8 @@ ghost use Rattle.vortex_c.specs.Words.{AnswersEncoding, HasAnswer, IsColumnEncod
 ghost use Rattle.vortex_c.specs.Words.{SaysWhyNotMerged, fault_of_encoding, fault_of_merge, kind_at, kind_of_code};
 ghost use Rattle.vortex_c.specs.Words.{status_of_encoding, status_of_merge};
 
-use crate::bounds::give;
 use crate::fault::{Fault, at, place_in_column, status_of_column};
+use crate::giving::give;
 use crate::status::{
     BAD_BYTES, BUFFER_TOO_SMALL, GIVEN, NO_MEMORY, NOT_A_VALUE, TOO_MANY_ROWS, UNKNOWN_KIND,
 };
