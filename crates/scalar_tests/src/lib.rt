@@ -59,5 +59,6 @@ mod views;
 #[cfg(test)]
 mod whole_runs;
 pub mod words_of_values;
+pub mod words_to_rows;
 pub mod zone_statistics;
 pub mod zones;
