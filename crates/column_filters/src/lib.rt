@@ -10,7 +10,6 @@ mod masks;
 mod tables;
 mod zones;
 
-pub use column_kernels::write_mask;
 pub use errors::{MaskError, ZoneError};
 pub use masks::mask_of_columns;
 pub use tables::read_columns;
