@@ -7,7 +7,8 @@ ghost use Rattle.arrow_columns.specs.Words.{AreBooleanStatisticsOf, AreByteStati
 ghost use Rattle.arrow_columns.specs.Words.{AreWithinBefore, HasRows, IsByteColumn, IsFirstOutside, IsWithin};
 ghost use Rattle.arrow_columns.specs.Words.{boolean_cells, byte_cells, bytes_between};
 ghost use Rattle.arrow_columns.specs.Words.{bytes_of_offset, cells_from, end_of, integer_cells, integer_of};
-ghost use Rattle.arrow_columns.specs.Words.{item_at, item_cells, items_of, number_of, offset_in, width_of, width_of_item};
+ghost use Rattle.arrow_columns.specs.Words.{item_at, item_cells, items_of, number_of};
+ghost use Rattle.arrow_columns.specs.Words.{offset_in, width_of, width_of_item};
 
 use crate::bitmaps::{is_row_valid, is_set};
 use crate::booleans::statistics_of_bits;

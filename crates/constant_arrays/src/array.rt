@@ -4,7 +4,8 @@
 ghost use Rattle.std.specs.Prelude.{◌≡◌, ◌⊎◌, ◌↔◌, ◌<◌, ◌≤◌, ◌==◌, Err, IfErr, IfOk, IsOk, Some, length, replicate};
 ghost use Rattle.std.specs.Prelude.{slice_get, slice_range};
 ghost use Rattle.constant_arrays.specs.Words.{IndexOutOfBounds, IsFlat, IsMadeOf, IsRange, IsValid, OutOfMemory};
-ghost use Rattle.constant_arrays.specs.Words.{RangeOutOfBounds, cell_of, items, len_of, scalar_of, scalar_raw, scalar_type};
+ghost use Rattle.constant_arrays.specs.Words.{RangeOutOfBounds, cell_of, items, len_of};
+ghost use Rattle.constant_arrays.specs.Words.{scalar_of, scalar_raw, scalar_type};
 
 use crate::error::ConstantArrayError;
 use std::alloc::Global;

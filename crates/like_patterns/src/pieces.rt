@@ -4,7 +4,8 @@
 ghost use Rattle.std.specs.Prelude.{◌≡◌, IfOk, IfSome, MatchOption};
 ghost use Rattle.std.specs.Str.{IsUtf8};
 ghost use Rattle.like_patterns.specs.Characters.{compared};
-ghost use Rattle.like_patterns.specs.Pieces.{FailsAtEnd, FailsAtFront, StripsEnd, StripsFront, fixed_parts, piece_shape};
+ghost use Rattle.like_patterns.specs.Pieces.{FailsAtEnd, FailsAtFront, StripsEnd};
+ghost use Rattle.like_patterns.specs.Pieces.{StripsFront, fixed_parts, piece_shape};
 
 use crate::case::Case;
 use crate::characters::{after_character, before_character};

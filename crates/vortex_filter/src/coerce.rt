@@ -12,7 +12,8 @@ ghost use Rattle.vortex_filter.specs.FilterLiterals.{AreValid, literal_tests, li
 ghost use Rattle.vortex_filter.specs.Positions.{comparison_of, member_among, range_of};
 ghost use Rattle.vortex_filter.specs.Rows.{IsRowOf, content_truth};
 ghost use Rattle.vortex_filter.specs.Words.{Cell, FitsColumns, IsValid, OutOfMemory, RefusesFirst, cell_of, comparison};
-ghost use Rattle.vortex_filter.specs.Words.{formula, membership, null_test, pattern_test, prefix_test, range, same_type};
+ghost use Rattle.vortex_filter.specs.Words.{formula, membership, null_test};
+ghost use Rattle.vortex_filter.specs.Words.{pattern_test, prefix_test, range, same_type};
 ghost use Rattle.vortex_filter.specs.Words.{scalar_content, scalar_type, truth, type_of};
 
 use crate::building::{conjoin, disjoin, negate};
@@ -40,7 +41,7 @@ impl Filter {
     /// A test with an integer that the column's integer type lacks becomes what it is: the same for
     /// each value of the column, and Unknown for a null. From an `In` such literals are left out. Of
     /// rows whose cells are of the columns' types the result says what the filter says by contents
-    /// alone. A filter that passes `check` is copied as it is.
+    /// alone. A filter that passes `check` is copied with the same contents.
     ///
     /// It is refused for the first test, in reading order, with a literal that cannot be cast, or
     /// whose column is not there or has values without an order. A literal of another type than the

@@ -3,7 +3,8 @@
 ghost use Rattle.std.specs.Prelude.{◌≡◌, ◌∷◌, [], IfErr, IfOk, MatchResult, map};
 ghost use Rattle.vortex_filter.specs.FilterLiterals.{AreValid, MakesCopies, exactly_of, literals_of};
 ghost use Rattle.vortex_filter.specs.Makes.{Makes, MakesUnlessBare};
-ghost use Rattle.vortex_filter.specs.Words.{IsBare, OutOfMemory, cell_of, comparison, formula, membership, pattern_test};
+ghost use Rattle.vortex_filter.specs.Words.{IsBare, OutOfMemory, cell_of, comparison};
+ghost use Rattle.vortex_filter.specs.Words.{formula, membership, pattern_test};
 ghost use Rattle.vortex_filter.specs.Words.{prefix_test, range};
 
 use crate::building::{conjoin, disjoin, negate};
