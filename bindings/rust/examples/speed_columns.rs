@@ -1,6 +1,7 @@
 // SPDX-License-Identifier: Apache-2.0
 // SPDX-FileCopyrightText: Copyright the Vortex contributors; ported to Rattle and changed
-//! Statistics, casts, keys and masks of a million rows beside careful plain loops. `speed_columns` shows the times of both, and their ratio.
+//! Statistics, casts, keys and masks of a million rows, and outcomes of 10,000 zones, beside careful plain loops. `speed_columns` shows
+//! the times of both, and their ratio.
 //! `speed_columns NAME ours`, `plain` and `none` make the columns, and do one of the two or neither: bench/bindings counts what
 //! each takes. `speed_columns aims` has each name after the most that its ratio is to be.
 
@@ -10,6 +11,7 @@ use std::hint::black_box;
 use std::time::Instant;
 
 const ROWS: usize = 1_000_000;
+const ZONE_ROWS: usize = 100;
 
 /// A xorshift generator.
 struct Random(u64);
@@ -513,6 +515,78 @@ fn sort(of: &Rows) {
     });
 }
 
+/// The bounds of two columns, neither of which has a null, on the rows of a zone.
+type Bounds<T> = [(T, T); 2];
+
+/// What a filter is on the zones of two columns by their statistics in bytes, beside plain Rust over bounds that are numbers.
+/// Returns the time of the first.
+fn compare_outcomes<T: Copy + PartialOrd>(
+    name: &str,
+    numbers: Column<'_>,
+    values: &[T],
+    ends: (T, T),
+) -> f64 {
+    let kinds = [("a", numbers.kind()), ("b", numbers.kind())];
+    let wanted = Filter::parse("a > 5 and b <= 1000000", &kinds).expect("a filter");
+    let known = |zone: usize| Statistics::of(&numbers.slice(ZONE_ROWS * zone, ZONE_ROWS), 16);
+    let known: Vec<Statistics> = (0..ROWS / ZONE_ROWS)
+        .map(|zone| known(zone).expect("a sound column"))
+        .collect();
+    let zones: Vec<[Option<&Statistics>; 2]> = known.iter().map(|zone| [Some(zone); 2]).collect();
+    let extremes = |zone: &[T]| {
+        zone.iter()
+            .fold((zone[0], zone[0]), |(least, greatest), value| {
+                (
+                    if *value < least { *value } else { least },
+                    if *value > greatest { *value } else { greatest },
+                )
+            })
+    };
+    let bounds: Vec<Bounds<T>> = values
+        .chunks(ZONE_ROWS)
+        .map(|zone| [extremes(zone); 2])
+        .collect();
+    let outcomes_of = |[(least, greatest), (lower, upper)]: &Bounds<T>| Outcomes {
+        may_be_false: *least <= ends.0 || *upper > ends.1,
+        may_be_unknown: false,
+        may_be_true: *greatest > ends.0 && *lower <= ends.1,
+    };
+    let ours = || {
+        wanted
+            .outcomes_of(zones.iter().map(|zone| &zone[..]))
+            .expect("sound statistics")
+    };
+    let plain = || bounds.iter().map(outcomes_of).collect::<Vec<Outcomes>>();
+    assert_eq!(ours(), plain(), "{name}");
+    let (of_ours, of_plain) = (seconds(ours), seconds(plain));
+    println!(
+        "Rust, {name}, {} zones: {:.2} ms, {:.1} of the time of plain Rust",
+        zones.len(),
+        1e3 * of_ours,
+        of_ours / of_plain
+    );
+    of_ours
+}
+
+fn outcomes(of: &Rows) {
+    let of_integers = compare_outcomes(
+        "outcomes of i64",
+        column("i64", of),
+        &of.wide,
+        (5, 1_000_000),
+    );
+    let of_floats = compare_outcomes(
+        "outcomes of f64",
+        column("f64", of),
+        &of.floats,
+        (5.0, 1_000_000.0),
+    );
+    println!(
+        "Rust, outcomes of f64: {:.2} of the time of i64",
+        of_floats / of_integers
+    );
+}
+
 fn main() {
     let words: Vec<String> = std::env::args().skip(1).collect();
     if words == ["aims"] {
@@ -540,5 +614,6 @@ fn main() {
         "Rust, statistics of f64, a million rows: {:.2} of the time of i64; the aim is {AIM_OF_FLOATS}",
         of_floats / of_integers
     );
+    outcomes(&made);
     sort(&made);
 }
