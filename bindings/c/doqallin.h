@@ -387,11 +387,11 @@ uint32_t doqallin_prepare_filter(const uint8_t *words, size_t words_length, cons
  * BAD_BYTES: the filter is no encoding that nests so deep at most. fault->column is offsets_length, and fault->place its first
  * byte that no such encoding has there, or its length if it ends too early. Or a literal in it is no value of its logical type,
  * as a day past the year 9999: fault->place is where its key begins.
- * WRONG_LENGTH: exactly if there are not as many offsets as pieces, and one more. fault->column is offsets_length.
+ * WRONG_LENGTH: there are not as many offsets as pieces, and one more. fault->column is offsets_length.
  * BAD_OFFSETS: an offset of the piece fault->column is below the one before it, or past the end of the statistics.
  * BAD_BYTES: the piece fault->column is no encoding of statistics of its column's kind; fault->place is as above, in the piece. Of
  * the last two the first piece decides.
- * NO_MEMORY: memory is asked for the filter, and for one zone at a time. */
+ * NO_MEMORY: may come in place of each other status. Memory is asked for the filter, and for one zone at a time. */
 uint32_t doqallin_filter_outcomes(const uint8_t *filter, size_t filter_length, const uint8_t *statistics,
                                   size_t statistics_length, const uint64_t *offsets, size_t offsets_length, size_t depth,
                                   uint8_t *outcomes, size_t outcomes_length, struct doqallin_fault *fault);
@@ -406,13 +406,14 @@ uint32_t doqallin_filter_outcomes(const uint8_t *filter, size_t filter_length, c
  * fault->place is as above.
  * BUFFER_TOO_SMALL: exactly if the filter was read, for which memory is asked, and the buffer has fewer bytes than a bit for each
  * row takes. Here `fault` is not written.
- * WRONG_LENGTH: exactly if the columns are not as many as the filter's. fault->column is column_count.
+ * WRONG_LENGTH: the columns are not as many as the filter's. fault->column is column_count.
  * UNKNOWN_KIND, TOO_MANY_ROWS, TOO_SHORT, BAD_OFFSETS, NOT_UTF8, NOT_A_VALUE: fault->column cannot be read, for what is at
  * fault->place.
  * UNKNOWN_KIND: fault->column is of another kind than the filter's, and fault->place is 1.
  * WRONG_LENGTH: fault->column has another number of rows than row_count. Of the last three the first column decides, of those that
  * the filter names.
- * NO_MEMORY: memory is asked for the filter and for each column, and for no value. */
+ * NO_MEMORY: may come in place of each other status. Memory is asked for the filter and for each column, and for no
+ * value. */
 uint32_t doqallin_filter_mask(const uint8_t *filter, size_t filter_length, const struct doqallin_column *columns,
                               size_t column_count, size_t row_count, size_t depth, uint8_t *buffer, size_t buffer_length,
                               struct doqallin_fault *fault);
@@ -491,7 +492,7 @@ uint32_t doqallin_index_root(const uint8_t *root, size_t root_length, uint8_t *b
  * GIVEN: the first *count of `ranges`; those after them are as they were.
  * BUFFER_TOO_SMALL: *count, which is all that is written, is how many there are.
  * BAD_BYTES, NOT_UTF8, BAD_FILTER: of the root, the words, the setup and the filter the first in this order that is wrong.
- * NO_MEMORY: may come in place of each but NOT_UTF8. */
+ * NO_MEMORY: may come in place of each other status. */
 uint32_t doqallin_search_blocks(const uint8_t *root, size_t root_length, const uint8_t *words, size_t words_length, size_t depth,
                                 struct doqallin_byte_range *ranges, size_t ranges_length, size_t *count,
                                 struct doqallin_search_fault *fault);
@@ -524,7 +525,7 @@ struct doqallin_plan_lengths {
  * BUFFER_TOO_SMALL: *lengths, which is all that is written, says how many there are of each.
  * BAD_BYTES, NOT_UTF8, BAD_FILTER: as from doqallin_search_blocks; and then of the blocks.
  * BAD_OFFSETS: a zone that is to be read ends too far.
- * NO_MEMORY: may come in place of each but NOT_UTF8. */
+ * NO_MEMORY: may come in place of each other status. */
 uint32_t doqallin_search_plan(const uint8_t *root, size_t root_length, const uint8_t *blocks, size_t blocks_length,
                               const uint8_t *words, size_t words_length, size_t depth, bool is_count,
                               struct doqallin_zone *zones, size_t zones_length, struct doqallin_byte_range *ranges,

@@ -37,7 +37,7 @@ Column('i64', [1, 0])
 >>> cast([200, None, 7], "u8")
 Column('u8', [200, None, 7])
 
-What comes out is Arrow data too: a `Column`, and a `table` of columns, go on into pyarrow, polars, DuckDB or pandas uncopied.
+What comes out is Arrow data too: whatever takes Arrow's C interface has a `Column`, and a `table` of columns, uncopied.
 
 A scalar is a type and a value, with casts, an order and a key:
 
