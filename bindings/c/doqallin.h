@@ -19,8 +19,8 @@
  * - `malloc`, `realloc` and `free` are of one allocator, and no call comes from a signal handler.
  * Calls on different threads need no lock: nothing is kept from one call to the next.
  *
- * Stack: a call takes at most 6 kilobytes of it, or 14 of statistics, whatever it is given. That was measured, on x86-64; no
- * contract speaks of stack. doqallin_call says what it takes. Calls of filters take more for each level that nests, of
+ * Stack: a call takes at most 6 kilobytes of it, or 14 of statistics and indexes, whatever it is given. That was measured, on
+ * x86-64; no contract speaks of stack. doqallin_call says what it takes. Calls of filters take more for each level that nests, of
  * which `depth` says how many there may be: with 32 none ends a process on a thread of 256 kilobytes. */
 #ifndef DOQALLIN_H
 #define DOQALLIN_H
@@ -419,9 +419,10 @@ uint32_t doqallin_filter_mask(const uint8_t *filter, size_t filter_length, const
                               struct doqallin_fault *fault);
 
 /* Searches in CSV files (docs/SEARCHES.md). Nothing is opened by the library: the caller reads bytes of the file and of its index,
- * which `zone_map index` writes, as it likes. First it reads the root of the index, then the blocks that a filter needs, then the
- * ranges of the file that a plan names, and searches what it read. Words of filters are as those of doqallin_prepare_filter, and so
- * is `depth`; and a name without quotes that no column has exactly is that of the one that has it in another case.
+ * which `zone_map index` writes, or doqallin_write_index, as it likes. First it reads the root of the index, then the blocks that
+ * a filter needs, then the ranges of the file that a plan names, and searches what it read. Words of filters are as those of
+ * doqallin_prepare_filter, and so is `depth`; and a name without quotes that no column has exactly is that of the one that has it
+ * in another case.
  *
  * A setup is a text in UTF-8 that says how records are read. Each line ends with a line feed: first `null WORD` for each word that
  * is a null; then four numbers with a blank between two, the delimiter's byte (255: each line is one field), 1 if records are read
@@ -448,10 +449,11 @@ struct doqallin_index_parts {
 };
 
 /* What is wrong with what a search was given, or with a record.
- * BAD_BYTES: `column` says of what, one of the DOQALLIN_PART_.., and `reason` what, one of the DOQALLIN_INDEX_.., of a setup 0.
+ * BAD_BYTES: `column` says of what, one of the DOQALLIN_PART_.., and `reason` what, one of the DOQALLIN_INDEX_.., of a setup
+ * and of statistics 0.
  * NOT_UTF8: the words are not. All three are 0.
  * BAD_FILTER: `place` is the byte of the words, and `reason` a code as of doqallin_mistake.
- * BAD_OFFSETS: `place` is the first zone to be read that ends at 2^64 or behind it.
+ * BAD_OFFSETS: `place` is the first zone to be read that ends at 2^64 or behind it; of a text that is indexed all three are 0.
  * REFUSED: `place` is the offset in the file at which the record begins, `reason` one of the DOQALLIN_REFUSED_.., and `column` the
  * column, from 0, that does not take its field. */
 struct doqallin_search_fault {
@@ -459,7 +461,7 @@ struct doqallin_search_fault {
     uint64_t column;
     uint32_t reason;
 };
-enum { DOQALLIN_PART_ROOT, DOQALLIN_PART_BLOCKS, DOQALLIN_PART_SETUP };
+enum { DOQALLIN_PART_ROOT, DOQALLIN_PART_BLOCKS, DOQALLIN_PART_SETUP, DOQALLIN_PART_STATISTICS };
 enum {
     DOQALLIN_INDEX_SHORT,   /* a field passes the end */
     DOQALLIN_INDEX_MAGIC,   /* the bytes are of no index */
@@ -572,6 +574,57 @@ uint32_t doqallin_search_records(const uint8_t *setup, size_t setup_length, cons
  * `column` is DOQALLIN_PART_SETUP. NO_MEMORY: *fault is not written. */
 uint32_t doqallin_guess_setup(const uint8_t *setup, size_t setup_length, const uint8_t *text, size_t text_length, bool has_header,
                               bool is_all, uint8_t *buffer, size_t buffer_length, size_t *count, uint64_t *start,
+                              struct doqallin_search_fault *fault);
+
+/* A zone of an index that is made: the offset of its first byte, how many bytes, records and rows it has, and how many bytes of
+ * the statistics, which stand one behind another, are its own. */
+struct doqallin_index_zone {
+    uint64_t first;
+    uint64_t length;
+    uint64_t records;
+    uint64_t rows;
+    size_t statistics;
+};
+
+/* How many zones were made, and bytes of statistics, and how many bytes of the text the zones have. Then, as far as 64 bits count,
+ * how many words of them became nulls since their columns do not take them, and how many records have more fields than columns:
+ * both are 0 if records are not read leniently. */
+struct doqallin_index_lengths {
+    size_t zones;
+    size_t statistics;
+    size_t taken;
+    uint64_t nulls;
+    uint64_t longer;
+};
+
+/* The zones of an index that a text has. The text begins with a record, at the offset `start` of the file. Each zone has as many
+ * records as the setup says, or one if it says 0, and the bounds have at most as many bytes as it says. With decimals of more than
+ * 18 digits say 16 at least, so that none is cut. `is_end` says that the file ends with the text: then the zones are all of it, and
+ * the last one may have fewer records. If not, they are those that are full for certain, each record with its line feed, whatever
+ * follows. Give the text from behind them again with what follows, and more of it if there was none. The zones and statistics of
+ * all calls, one behind another, are those of the whole file, however it is cut.
+ * GIVEN: the first lengths->zones of `zones` and lengths->statistics of `statistics`; those after them are as they were.
+ * BUFFER_TOO_SMALL: *lengths, which is all that is written, says how many there are of each.
+ * REFUSED: this is the first record of these zones that has fields that are no row.
+ * BAD_OFFSETS: the text ends at 2^64 or behind it.
+ * BAD_BYTES: of the setup. NO_MEMORY: may come in place of each. Memory is asked for a zone's text, and for all that is given. */
+uint32_t doqallin_index_records(const uint8_t *setup, size_t setup_length, uint64_t start, const uint8_t *text, size_t text_length,
+                                bool is_end, struct doqallin_index_zone *zones, size_t zones_length, uint8_t *statistics,
+                                size_t statistics_length, struct doqallin_index_lengths *lengths,
+                                struct doqallin_search_fault *fault);
+
+/* The bytes of an index, as `zone_map index` writes them to FILE.zones: of a file that had so many bytes and was changed last then
+ * (nanoseconds since 1970), whose first record begins at `start` and which has these zones, from there to its end, one behind
+ * another. That they are its zones is not tested. So many bytes suffice: 96, those of the setup and of the statistics, 32 for each
+ * zone and 40 for each column.
+ * GIVEN: the index has the first *count bytes of the buffer; those after it are as they were.
+ * BUFFER_TOO_SMALL: *count, which is all that is written, is how many bytes it has.
+ * BAD_BYTES: of the setup; or the statistics of a zone are not a piece for each column.
+ * WRONG_LENGTH: there are more or fewer bytes of statistics than the zones say. *fault is not written.
+ * NO_MEMORY: *fault is not written. */
+uint32_t doqallin_write_index(const uint8_t *setup, size_t setup_length, uint64_t file_length, uint64_t changed, uint64_t start,
+                              const struct doqallin_index_zone *zones, size_t zones_length, const uint8_t *statistics,
+                              size_t statistics_length, uint8_t *buffer, size_t buffer_length, size_t *count,
                               struct doqallin_search_fault *fault);
 
 /* Nearly any call of the library, by a line of text. In the library doqallin_call.

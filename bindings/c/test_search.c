@@ -28,6 +28,9 @@ static struct doqallin_zone zones[MOST];
 static struct doqallin_plan_lengths lengths;
 static struct doqallin_position position;
 static struct doqallin_found found[MOST];
+static struct doqallin_index_zone made[ROOM];
+static struct doqallin_index_lengths made_lengths;
+static uint8_t statistics[ROOM];
 
 static size_t read_file(const char *name, uint8_t *into) {
     FILE *opened = fopen(name, "rb");
@@ -157,6 +160,82 @@ static void setups(void) {
     CHECK(setup_of("34 0 0 0\n", "a,b\n", true, ROOM) == DOQALLIN_BAD_BYTES);
 }
 
+// The zones of a text that begins at this offset, with room for so many of them and for so many bytes of statistics.
+static uint32_t zones_of(uint64_t start, const uint8_t *text, size_t length, bool is_end, size_t most, size_t room) {
+    return doqallin_index_records(setup, setup_length, start, text, length, is_end, made, most, statistics, room, &made_lengths, &fault);
+}
+
+static uint32_t zones_in(const char *text, bool is_end) {
+    return zones_of(100, (const uint8_t *)text, strlen(text), is_end, ROOM, ROOM);
+}
+
+static uint32_t index_of(size_t zone_count, size_t statistics_length, size_t room) {
+    return doqallin_write_index(setup, setup_length, file_length, parts.changed, 0, made, zone_count, statistics, statistics_length, changed,
+                                room, &count, &fault);
+}
+
+// The index of the file, whose text comes in pieces: of so many bytes at most, and at random.
+static uint32_t index_by_pieces(size_t most) {
+    static struct doqallin_index_zone all[ROOM];
+    static uint8_t bytes[ROOM];
+    size_t zone_count = 0, length = 0, place = 0, end = 0;
+    bool is_end = false;
+    while (!is_end) {
+        is_end = end == file_length;
+        end += (size_t)rand() % most + 1;
+        end = end > file_length ? file_length : end;
+        uint32_t status = zones_of(place, file + place, end - place, is_end, ROOM, ROOM);
+        if (status != DOQALLIN_GIVEN) return status;
+        memcpy(all + zone_count, made, made_lengths.zones * sizeof *made);
+        memcpy(bytes + length, statistics, made_lengths.statistics);
+        zone_count += made_lengths.zones, length += made_lengths.statistics, place += made_lengths.taken;
+    }
+    memcpy(made, all, zone_count * sizeof *made);
+    memcpy(statistics, bytes, length);
+    return index_of(zone_count, length, ROOM);
+}
+
+static bool is_index(void) {
+    return count == index_length && !memcmp(changed, index_, count);
+}
+
+static void indexes(void) {
+    CHECK(root_of(index_, root_length, ROOM) == DOQALLIN_GIVEN);
+    CHECK(zones_of(0, file, file_length, true, ROOM, ROOM) == DOQALLIN_GIVEN && made_lengths.zones == ZONES && made_lengths.taken == file_length);
+    CHECK(made[1].first == made[0].length && made[1].records == 10 && made[1].rows == 10 && made_lengths.nulls == 0 && made_lengths.longer == 0);
+    CHECK(made[0].statistics + made[1].statistics + made[2].statistics == made_lengths.statistics);
+    size_t long_enough = made_lengths.statistics;
+    CHECK(index_of(ZONES, long_enough, ROOM) == DOQALLIN_GIVEN && is_index());
+    CHECK(index_length <= 96 + setup_length + long_enough + 32 * ZONES + 40 * 2);
+    CHECK(index_of(ZONES, long_enough, index_length - 1) == DOQALLIN_BUFFER_TOO_SMALL && count == index_length);
+    CHECK(index_of(ZONES, long_enough - 1, ROOM) == DOQALLIN_WRONG_LENGTH);
+    CHECK(index_of(ZONES - 1, long_enough, ROOM) == DOQALLIN_WRONG_LENGTH);
+    statistics[0]++;
+    CHECK(index_of(ZONES, long_enough, ROOM) == DOQALLIN_BAD_BYTES && fault.column == DOQALLIN_PART_STATISTICS);
+    CHECK(zones_of(0, file, file_length, true, ZONES - 1, ROOM) == DOQALLIN_BUFFER_TOO_SMALL && made_lengths.zones == ZONES && made_lengths.statistics == long_enough);
+    CHECK(zones_of(0, file, file_length, true, ZONES, long_enough - 1) == DOQALLIN_BUFFER_TOO_SMALL && made_lengths.taken == file_length);
+    // Without the end only full zones are taken, which end with a line feed for certain.
+    CHECK(zones_of(0, file, file_length, false, ROOM, ROOM) == DOQALLIN_GIVEN && made_lengths.zones == ZONES);
+    CHECK(zones_of(0, file, file_length - 1, false, ROOM, ROOM) == DOQALLIN_GIVEN && made_lengths.zones == ZONES - 1 && made_lengths.taken == made[0].length + made[1].length);
+    CHECK(zones_in("1,a\n2,b\n", false) == DOQALLIN_GIVEN && made_lengths.zones == 0 && made_lengths.statistics == 0 && made_lengths.taken == 0);
+    CHECK(zones_in("1,a\n2,\"b", true) == DOQALLIN_GIVEN && made_lengths.zones == 1 && made[0].first == 100 && made[0].records == 2 && made_lengths.taken == 8);
+    CHECK(zones_in("1,a\n\n", true) == DOQALLIN_GIVEN && made[0].records == 2 && made[0].rows == 1);
+    CHECK(zones_in("", true) == DOQALLIN_GIVEN && made_lengths.zones == 0 && made_lengths.taken == 0);
+    made_lengths.zones = 77;
+    CHECK(zones_in("1,a\nx,b\n", false) == DOQALLIN_GIVEN && made_lengths.zones == 0);
+    made_lengths.zones = 77;
+    CHECK(zones_in("1,a\nx,b\n", true) == DOQALLIN_REFUSED && fault.place == 104 && fault.column == 0 && fault.reason == DOQALLIN_REFUSED_FIELD);
+    CHECK(zones_in("1,a\n2\n", true) == DOQALLIN_REFUSED && fault.place == 104 && fault.reason == DOQALLIN_REFUSED_FIELD_COUNT);
+    CHECK(zones_of(UINT64_MAX - 2, (const uint8_t *)"1,a", 3, true, ROOM, ROOM) == DOQALLIN_BAD_OFFSETS);
+    CHECK(zones_of(UINT64_MAX - 3, (const uint8_t *)"1,a", 3, true, 0, 0) == DOQALLIN_BUFFER_TOO_SMALL && made_lengths.zones == 1);
+    made_lengths.zones = 77;
+    setup_length--;
+    CHECK(zones_in("1,a\n", true) == DOQALLIN_BAD_BYTES && fault.column == DOQALLIN_PART_SETUP && made_lengths.zones == 77);
+    CHECK(index_of(0, 0, ROOM) == DOQALLIN_BAD_BYTES && fault.column == DOQALLIN_PART_SETUP);
+    setup_length++;
+    for (size_t most = 1; most <= 400; most++) CHECK(index_by_pieces(most) == DOQALLIN_GIVEN && is_index());
+}
+
 // Each call that takes memory.
 static uint32_t take_memory(int which) {
     position = (struct doqallin_position){.place = 0, .number = 1};
@@ -166,6 +245,8 @@ static uint32_t take_memory(int which) {
     case 2: return plan_of("n = 15", false, MOST);
     case 3: return records_of("n > 1", "1,a\n2,b\n", true, MOST);
     case 4: return setup_of("44 0 0 0\n", "a,b\n1,x\n", true, ROOM);
+    case 5: return zones_in("1,a\n2,b\n", true);
+    case 6: return index_of(made_lengths.zones, made_lengths.statistics, ROOM);
     default: exit(2);
     }
 }
@@ -197,12 +278,14 @@ int main(int argc, char **argv) {
         root_of(index_, root_length, ROOM);
         blocks_of("n = 15", MOST);
         take_blocks();
+        zones_in("1,a\n2,b\n", true);
         return memory(atoi(argv[3]));
     }
     roots();
     plans();
     records();
     setups();
+    indexes();
     printf("%d passed, %d failed\n", passed, failed);
     return failed != 0;
 }

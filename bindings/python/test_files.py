@@ -16,12 +16,15 @@ import sys
 import tempfile
 import threading
 import unittest
+import unittest.mock
 import urllib.request
 from datetime import date, datetime, time, timezone
 from decimal import Decimal
 from pathlib import Path
 
 import doqallin
+import doqallin._files
+import doqallin._indexes
 from doqallin import BadFilter, BadIndex, BadRecord, KindsDiffer, NoColumn, StaleIndex
 
 PROGRAM = os.environ.get("ZONE_MAP") or str(Path(__file__).resolve().parents[2] / "crates/zone_map/out/zone_map")
@@ -267,6 +270,155 @@ class OverHttp(InAFolder):
         index = (self.folder / "trips.csv.zones").stat().st_size
         self.assertLessEqual(Ranges.served - before, read + 2 * index)
         self.assertLess(Ranges.served - before, path.stat().st_size // 4)
+
+
+class OfIndexes(InAFolder):
+    """Indexes that the package makes: to the byte those of the program."""
+
+    # A name, the file, options of the package, and the same of the program.
+    FILES = [
+        ("trips", text_of(random_rows(random.Random(10))), {"columns": {"id": "i64", "town": "utf8?", "fare": "decimal(10,2)?", "day": "date?"}}, ["--columns", COLUMNS]),
+        ("guessed", text_of(random_rows(random.Random(11)), "\r\n"), {}, []),
+        ("few", text_of(random_rows(random.Random(12), 1000)), {"rows": 64, "bounds": 5}, ["--rows", "64", "--bytes", "5"]),
+        ("each", text_of(random_rows(random.Random(13), 200)), {"rows": 1}, ["--rows", "1"]),
+        ("a header", b"n,word\n1,a\n2,\n3,\"x\n\ny\"\n", {"header": True}, ["--header"]),
+        ("a header alone", b"n,word\n", {"header": True}, ["--header"]),
+        ("nothing", b"", {}, []),
+        ("one", b"1,a\n", {}, []),
+        ("one without its end", b"1,a", {}, []),
+        ("an open quote", b'1,a\n2,"b\nc', {}, []),
+        ("no end", b"1,a\n2,b\n3,c", {"rows": 2}, ["--rows", "2"]),
+        ("full zones", b"1,a\n2,b\n3,c\n4,d\n", {"rows": 2}, ["--rows", "2"]),
+        ("empty lines", b"1,a\n\n\n2,b\n\n", {"rows": 2}, ["--rows", "2"]),
+        ("nulls", b"1;NA\n-;x\n", {"delimiter": ";", "nulls": ["NA", "-"]}, ["--delimiter", ";", "--null", "NA", "--null", "-"]),
+        ("wide", b"12345678901234567890123456789.5\n1.5\n", {"bounds": 3}, ["--bytes", "3"]),
+        ("lines", b"a,b\nc\n", {"delimiter": "none"}, ["--delimiter", "none"]),
+        ("lenient", b"1,x\n1_0,y\n,z\n3\n4,a,b\n", {"columns": {"n": "i64?", "word": "utf8?"}, "lenient": True}, ["--columns", "n i64?, word utf8?", "--lenient"]),
+        ("long", b"".join(b'%d,"%s"\n' % (n, b"x\n" * 300) for n in range(50)), {"rows": 7}, ["--rows", "7"]),
+    ]
+
+    def by_the_program(self, path, words):
+        subprocess.run([PROGRAM, "index", path, *words], check=True, stdout=subprocess.DEVNULL, stderr=subprocess.DEVNULL)
+        index = Path(f"{path}.zones")
+        made = index.read_bytes()
+        index.unlink()
+        return made
+
+    def test_the_bytes_are_those_of_the_program(self):
+        for name, text, options, words in self.FILES:
+            path = self.folder / f"{name}.csv"
+            path.write_bytes(text)
+            wanted = self.by_the_program(path, words)
+            for piece in (1 << 22, 1, 7, 64, 1000):
+                if len(text) > 1000 * piece:
+                    continue
+                with self.subTest(name, piece=piece), unittest.mock.patch.object(doqallin._files, "_PIECE", piece):
+                    with doqallin.index(path, **options) as files:
+                        self.assertEqual(Path(f"{path}.zones").read_bytes(), wanted)
+                        self.assertEqual([zone.offset + zone.length for zone in files.zones][-1:], [len(text)] if files.zones else [])
+            self.assertEqual(sorted(self.folder.glob(f"{name}.csv.zones*")), [Path(f"{path}.zones")])
+
+    def test_with_little_room_at_first(self):
+        path = self.folder / "trips.csv"
+        path.write_bytes(text_of(random_rows(random.Random(14))))
+        wanted = self.by_the_program(path, ["--rows", "10"])
+        with unittest.mock.patch.object(doqallin._indexes, "_MOST", 1), unittest.mock.patch.object(doqallin._indexes, "_ROOM", 1):
+            doqallin.index(path, rows=10).close()
+        self.assertEqual(Path(f"{path}.zones").read_bytes(), wanted)
+
+    def test_what_it_gives(self):
+        rows = random_rows(random.Random(15))
+        path = self.folder / "trips.csv"
+        path.write_bytes(text_of(rows))
+        told = []
+        with doqallin.open(path) as plain, plain.index(lambda done, total: told.append((done, total)), rows=100) as files:
+            self.assertEqual(len(files.zones), ROWS // 100)
+            self.assertEqual(files.columns, plain.columns)
+            self.assertEqual(files.find("$1 between 100 and 120").to_pydict(), plain.find("$1 between 100 and 120").to_pydict())
+            self.assertLess(sum(zone.way != "skip" for zone in files.plan("$1 between 100 and 120")), 3)
+        size = path.stat().st_size
+        self.assertEqual(told[-1], (size, size))
+        with doqallin.open(path) as files, files.index(rows=50) as again:
+            self.assertEqual(len(again.zones), ROWS // 50)
+        with doqallin.index([path, path], progress=False) as both:
+            self.assertEqual(both.count("$1 = 100"), 4)
+        lenient = self.folder / "lenient.csv"
+        lenient.write_bytes(b"1,x\ny,z\n2\n3,a,b\n")
+        with doqallin.index(lenient, columns={"n": "i64?", "word": "utf8?"}, lenient=True) as files:
+            self.assertEqual((files.nulled, files.longer), (1, 1))
+
+    def test_nothing_is_told_but_on_a_terminal(self):
+        path = self.folder / "trips.csv"
+        path.write_bytes(b"1,a\n2,b\n")
+        for progress, is_terminal, wanted in [(None, False, ""), (None, True, "\r8 of 8 bytes\n"), (True, False, "\r8 of 8 bytes\n"), (False, True, "")]:
+            told = io.StringIO()
+            told.isatty = lambda: is_terminal
+            with unittest.mock.patch.object(sys, "stderr", told):
+                doqallin.index(path, progress=progress).close()
+            self.assertEqual(told.getvalue(), wanted)
+
+    def test_a_record_that_is_refused(self):
+        path, kinds = self.folder / "bad.csv", {"n": "i64", "word": "utf8"}
+        index = Path(f"{path}.zones")
+        for text, place, line, column, word in [
+            (b"1,a\n2,\"b\nb\"\nx,c\n", 12, 4, "n", b"x"),
+            (b"1,a\n" * 100 + b'"1,""2",c\n3,d\n', 400, 101, "n", b'1,"2'),
+            (b"1,a\n2\n", 4, 2, None, None),
+            (b"1,a\n2,b,c", 4, 2, None, None),
+        ]:
+            path.write_bytes(b"1,a\n")
+            doqallin.index(path, columns=kinds).close()
+            before = index.read_bytes()
+            path.write_bytes(text)
+            for piece in (1 << 22, 3):
+                with self.subTest(text, piece=piece), unittest.mock.patch.object(doqallin._files, "_PIECE", piece):
+                    with self.assertRaises(BadRecord) as raised:
+                        doqallin.index(path, columns=kinds, rows=2)
+                    error = raised.exception
+                    self.assertEqual((error.place, error.line, error.column, error.word), (place, line, column, word))
+                    self.assertIn(f"bad.csv:{line}: ", str(error))
+                    self.assertEqual(index.read_bytes(), before)
+                    self.assertEqual(sorted(self.folder.glob("*.zones*")), [index])
+
+    def test_what_stands_there(self):
+        path = self.folder / "trips.csv"
+        path.write_bytes(b"1,a\n")
+        index, other = Path(f"{path}.zones"), self.folder / "other"
+        other.write_bytes(b"other")
+        # Links are passed over, and replaced.
+        index.symlink_to(other)
+        (self.folder / "trips.csv.zones.new1").symlink_to(other)
+        doqallin.index(path).close()
+        self.assertEqual(other.read_bytes(), b"other")
+        self.assertFalse(index.is_symlink())
+        with doqallin.open(path) as files:
+            self.assertEqual(files.count(), 1)
+        self.assertFalse((self.folder / "trips.csv.zones.new2").exists())
+        # What cannot be renamed leaves nothing.
+        index.unlink()
+        index.mkdir()
+        with self.assertRaises(OSError):
+            doqallin.index(path)
+        self.assertFalse((self.folder / "trips.csv.zones.new2").exists())
+
+    def test_a_file_that_changes(self):
+        path = self.folder / "trips.csv"
+        path.write_bytes(b"1,a\n")
+        with self.assertRaises(StaleIndex):
+            doqallin.index(path, progress=lambda done, total: path.write_bytes(b"1,a\n2,b\n"))
+        self.assertFalse(Path(f"{path}.zones").exists())
+
+    def test_what_is_no_file(self):
+        with self.assertRaises(TypeError):
+            doqallin.index(io.BytesIO(b"1,a\n"))
+        with self.assertRaises(FileNotFoundError):
+            doqallin.index(self.folder / "none.csv")
+        empty = self.folder / "empty.csv"
+        empty.write_bytes(b"")
+        with self.assertRaises(NoColumn):
+            doqallin.index(empty, header=True)
+        with self.assertRaises(ValueError):
+            doqallin.index(empty, rows=0)
 
 
 class OfTheModule(InAFolder):

@@ -91,7 +91,7 @@ from ._errors import (
     UnknownKind,
     WrongLength,
 )
-from ._files import Files, FileZone, open
+from ._files import Files, FileZone, index, open
 from ._filters import Filter, Outcomes, Zones
 from ._keys import from_row_keys, row_keys
 from ._kinds import Kind
@@ -156,6 +156,7 @@ __all__ = [
     "columns",
     "dtype",
     "from_row_keys",
+    "index",
     "library_version",
     "literal",
     "lower_bound",

@@ -205,6 +205,8 @@ class StaleIndex(DoqallinError, ValueError):
 
 class BadRecord(DoqallinError, ValueError):
     """A record of a file is no row of its columns. `place` is the offset at which it begins, and `column` the name of the column
-    that does not take its field, if it is one."""
+    that does not take its field, if it is one. When an index is made, `line` is the line of the file, from 1, and `word` the field."""
 
     column: str | None = None
+    line: int | None = None
+    word: bytes | None = None

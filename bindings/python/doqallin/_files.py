@@ -11,14 +11,15 @@ from collections.abc import Iterable, Iterator, Mapping
 from typing import Any, NamedTuple
 
 from ._columns import Column, joined
-from ._errors import KindsDiffer, NoColumn, StaleIndex
+from ._errors import BadRecord, KindsDiffer, NoColumn, StaleIndex
+from ._indexes import BOUNDS, ROWS, Maker, Progress, sized, telling, write
 from ._library import Position, RawZone
 from ._searches import ALL_MATCH, EVERY_ROW, SKIP, UNKNOWN, WHOLE, Index, Match, guessed, matching
 from ._tables import Table, of_columns
 from ._types import DType
-from ._words import Rows, places_of
+from ._words import Rows, places_of, word_of
 
-__all__ = ["Files", "FileZone", "open"]
+__all__ = ["Files", "FileZone", "index", "open"]
 
 # So many bytes are read at once, and so many rows are in a batch.
 _PIECE = 4 << 20
@@ -53,6 +54,11 @@ class _Source:
         if self._file is None:
             self._file = io.open(str(self._path), "rb", buffering=0)
         return self._file
+
+    @property
+    def path(self) -> str | None:
+        """Where the file is, if it is one of the system's."""
+        return None if self._path is None else os.fsdecode(self._path)
 
     def close(self) -> None:
         """Closes what was opened here."""
@@ -96,6 +102,7 @@ class _File:
 
     def __init__(self, source: _Source, given: bytes, has_header: bool, has_options: bool) -> None:
         self.source = source
+        self.has_header = has_header
         self.index: Index | None = None
         found = None if has_options else source.index()
         self._index_source = found
@@ -148,11 +155,64 @@ class _File:
                 yield text, start, found
             text = text[position.place - start :]
 
+    def write_index(self, rows: int, bounds: int, tell: Progress) -> Maker:
+        """Writes the index of the file beside it. The file is read once, piece by piece."""
+        name = self.source.path
+        if name is None:
+            raise TypeError(f"{self.source.name} is a file object: an index is written beside a file that has a path")
+        if self.has_header and self.start == 0:
+            raise NoColumn(f"{name} is empty, and has no header")
+        maker = Maker(sized(self.setup, rows, bounds), self.start)
+        with io.open(name, "rb", buffering=0) as file:
+            before = _stamp(file)
+            file.seek(self.start)
+            self._add_zones(maker, file, before[0], tell)
+            if _stamp(file) != before or maker.end != before[0]:
+                raise StaleIndex(f"{name} changed while it was read")
+        write(f"{name}.zones", maker.index(before[1]))
+        return maker
+
+    def _add_zones(self, maker: Maker, file: Any, length: int, tell: Progress) -> None:
+        text, read, is_end = b"", self.start, False
+        while not is_end:
+            piece = file.read(max(_PIECE, len(text)))
+            is_end = not piece
+            read += len(piece)
+            text += piece
+            try:
+                taken = maker.add(text, is_end)
+            except BadRecord as error:
+                raise self._located(error, text[(error.place or 0) - maker.end :]) from None
+            text = text[taken:]
+            if piece or not length:
+                tell(read, length)
+
+    def _located(self, error: BadRecord, text: bytes) -> BadRecord:
+        """The error, with the line of the record, which begins this text, and the word that its column does not take."""
+        error.line = 1 + self._feeds(error.place or 0)
+        place = f"{self.source.name}:{error.line}"
+        if error.column is None:
+            error.args = (f"{place}: {str(error).partition(': ')[2]}",)
+        else:
+            error.word = word_of(text, self.setup, error.column)
+            error.args = (f"{place}: column {error.column!r}, {self.setup.columns[error.column]}, does not take {error.word[:80]!r}",)
+        return error
+
+    def _feeds(self, end: int) -> int:
+        """How many line feeds stand before an offset."""
+        return sum(self.source.read(place, min(_PIECE, end - place)).count(b"\n") for place in range(0, end, _PIECE))
+
     def count(self, words: str) -> int:
         known = 0
         if self.index is not None:
             known = sum(zone.rows for zone in self.index.plan(words, True).zones if zone.decision == ALL_MATCH)
         return known + sum(len(found) for _, _, found in self.matches(words, True))
+
+
+def _stamp(file: Any) -> tuple[int, int]:
+    """How long an open file is, and when it was changed last."""
+    found = os.fstat(file.fileno())
+    return found.st_size, max(0, found.st_mtime_ns)
 
 
 def _runs(zones: Iterable[RawZone], is_count: bool) -> Iterator[list[RawZone]]:
@@ -172,9 +232,15 @@ def _runs(zones: Iterable[RawZone], is_count: bool) -> Iterator[list[RawZone]]:
 class Files:
     """CSV files as one table. `doqallin.open` makes it.
 
-    What is asked is a filter, as SQL's WHERE has it. A file with an index, which `zone_map index` makes, is read only where rows may
-    match; another one is read whole. Nothing is kept in memory but the rows that match, and of `batches` one batch.
+    What is asked is a filter, as SQL's WHERE has it. A file with an index, which `index` and the program `zone_map index` make, is
+    read only where rows may match; another one is read whole. Nothing is kept in memory but the rows that match, and of `batches`
+    one batch.
     """
+
+    nulled = 0
+    """How many words became nulls when `index` made these files' indexes, since their columns do not take them (`lenient`)."""
+    longer = 0
+    """How many records had more fields than there are columns then."""
 
     def __init__(self, sources: list[_Source], given: bytes, has_header: bool, has_options: bool) -> None:
         self._files: list[_File] = []
@@ -272,6 +338,29 @@ class Files:
         """How many rows match. A zone is not read where its statistics say that all do, or none."""
         return sum(file.count(where) for file in self._files)
 
+    def index(self, progress: Progress | bool | None = None, *, rows: int = ROWS, bounds: int = BOUNDS) -> Files:
+        """Makes an index of each file, `trips.csv.zones` of `trips.csv`, and returns the files opened by these.
+
+        The indexes are those that `zone_map index` makes: they have bounds of the columns' values for each zone of so many `rows`;
+        bounds of strings and bytes have at most `bounds` bytes. A file is read once, piece by piece. Its index is written whole or
+        not at all, beside it, and no link with its name is followed.
+
+        `progress(done, total)` is called with how many bytes were read. Without it that is told on standard error, if this is a
+        terminal; with False it is not.
+
+        Raises BadRecord with the line of the first record that is no row, and StaleIndex if the file changes meanwhile. Then an
+        index that was there stays.
+        """
+        if rows < 1:
+            raise ValueError(f"a zone has one record at least, not {rows}")
+        if bounds < 0:
+            raise ValueError(f"a bound has no {bounds} bytes")
+        made = [file.write_index(rows, bounds, telling(progress)) for file in self._files]
+        self.close()
+        files = Files([_Source(name, True) for name in self.names], b"", False, False)
+        files.nulled, files.longer = sum(maker.nulls for maker in made), sum(maker.longer for maker in made)
+        return files
+
     def __repr__(self) -> str:
         return f"<Files {', '.join(self.names[:3])}{', ..' if len(self.names) > 3 else ''}: {self.columns}>"
 
@@ -316,8 +405,8 @@ def open(
     """CSV files as a table that is searched: a path, a pattern of paths, a folder, a list of these, or a file object that has `seek`
     and `read`, as those of fsspec.
 
-    A file `trips.csv` is searched by its index `trips.csv.zones` if that is there: `zone_map index trips.csv` makes it, and says
-    with its options how the records are read. `index=False` passes it over; of a file object the index is another one, given as
+    A file `trips.csv` is searched by its index `trips.csv.zones` if that is there: `index` makes it, or `zone_map index trips.csv`,
+    and their options say how the records are read. `index=False` passes it over; of a file object the index is another one, given as
     `index`. Without an index the file is read whole, and the options are those of `zone_map`: `header`, `delimiter` (one byte, or
     `none`), `nulls`, `lenient`, and `columns` with a kind for each name; the others are guessed from the first thousand records.
     Any of these options passes the index over.
@@ -340,3 +429,31 @@ def open(
     if not sources:
         raise NoColumn(f"there is no file {source!r}")
     return Files(sources, _setup_text(columns, delimiter, words, lenient), header, has_options)
+
+
+def index(
+    source: Any,
+    *,
+    columns: Mapping[str, str | DType] | None = None,
+    header: bool = False,
+    delimiter: str = ",",
+    nulls: Iterable[str] = (),
+    lenient: bool = False,
+    rows: int = ROWS,
+    bounds: int = BOUNDS,
+    progress: Progress | bool | None = None,
+) -> Files:
+    """Makes an index of each CSV file, as `Files.index` does, and returns the files opened by these. What is not said of the columns
+    is guessed, also if there is an index.
+
+    >>> import io, os, tempfile
+    >>> with tempfile.TemporaryDirectory() as folder:
+    ...     name = os.path.join(folder, "trips.csv")
+    ...     with io.open(name, "wb") as file:
+    ...         _ = file.write(b"id,city\\n1,Oslo\\n2,Bergen\\n")
+    ...     trips = index(name, header=True, progress=False)
+    ...     trips.find("city like 'O%'").to_pydict(), [zone.way for zone in trips.plan("id > 2")]
+    ({'id': [1], 'city': ['Oslo']}, ['skip'])
+    """
+    with open(source, columns=columns, header=header, delimiter=delimiter, nulls=nulls, lenient=lenient, index=False) as files:
+        return files.index(progress, rows=rows, bounds=bounds)

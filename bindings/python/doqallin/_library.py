@@ -174,6 +174,26 @@ class Position(ctypes.Structure):
     _fields_ = [("place", c_uint64), ("number", c_uint64)]
 
 
+class IndexZone(ctypes.Structure):
+    """A zone of an index that is made."""
+
+    first: int
+    length: int
+    records: int
+    rows: int
+    statistics: int
+    _fields_ = [(name, c_uint64) for name in ("first", "length", "records", "rows")] + [("statistics", c_size_t)]
+
+
+class IndexLengths(ctypes.Structure):
+    zones: int
+    statistics: int
+    taken: int
+    nulls: int
+    longer: int
+    _fields_ = [(name, c_size_t) for name in ("zones", "statistics", "taken")] + [(name, c_uint64) for name in ("nulls", "longer")]
+
+
 _BYTES = (c_char_p, c_size_t)
 _ROOM = (POINTER(c_uint8), c_size_t)
 _COLUMN = (*_BYTES, POINTER(c_uint64), c_size_t, c_size_t, *_ROOM, *_ROOM, POINTER(BoundLengths))
@@ -240,6 +260,8 @@ search_blocks = _declare("search_blocks", c_uint32, *_BYTES, *_BYTES, c_size_t, 
 search_plan = _declare("search_plan", c_uint32, *_BYTES, *_BYTES, *_BYTES, c_size_t, c_bool, *_SPACE, *_SPACE, POINTER(PlanLengths), _FAULT)
 search_records = _declare("search_records", c_uint32, *_BYTES, *_BYTES, c_size_t, *_BYTES, c_bool, POINTER(Position), *_SPACE, _OUT, _FAULT)
 guess_setup = _declare("guess_setup", c_uint32, *_BYTES, *_BYTES, c_bool, c_bool, *_SPACE, _OUT, POINTER(c_uint64), _FAULT)
+index_records = _declare("index_records", c_uint32, *_BYTES, c_uint64, *_BYTES, c_bool, *_SPACE, *_SPACE, POINTER(IndexLengths), _FAULT)
+write_index = _declare("write_index", c_uint32, *_BYTES, c_uint64, c_uint64, c_uint64, *_SPACE, *_BYTES, *_SPACE, _OUT, _FAULT)
 
 
 # A buffer of this size holds most answers.

@@ -44,6 +44,15 @@ def _split(record: bytes, delimiter: bytes) -> list[tuple[bytes, bool]]:
         place = close + 1
 
 
+def word_of(text: bytes, setup: Setup, column: str) -> bytes:
+    """The field of a column in the record with which a text begins."""
+    end = text.find(b"\n")
+    while end >= 0 and text.count(b'"', 0, end) % 2 == 1:
+        end = text.find(b"\n", end + 1)
+    fields = _split(text[: end if end >= 0 else len(text)].rstrip(b"\r"), setup.delimiter)
+    return fields[list(setup.columns).index(column)][0]
+
+
 def _seconds(found: re.Match[bytes]) -> timedelta:
     hour, minute, second, fraction = found.groups()
     digits = (fraction or b"").rstrip(b"0")

@@ -151,6 +151,27 @@ pub struct PlanLengths {
     pub ranges: usize,
 }
 
+/// A zone of an index that is made.
+#[repr(C)]
+#[derive(Clone, Copy, Default)]
+pub struct IndexZone {
+    pub first: u64,
+    pub length: u64,
+    pub records: u64,
+    pub rows: u64,
+    pub statistics: usize,
+}
+
+#[repr(C)]
+#[derive(Default)]
+pub struct IndexLengths {
+    pub zones: usize,
+    pub statistics: usize,
+    pub taken: usize,
+    pub nulls: u64,
+    pub longer: u64,
+}
+
 /// A record that matches.
 #[repr(C)]
 #[derive(Clone, Copy, Default)]
@@ -418,6 +439,35 @@ unsafe extern "C" {
         buffer_length: usize,
         count: &mut usize,
         start: &mut u64,
+        fault: &mut SearchFault,
+    ) -> u32;
+    pub fn doqallin_index_records(
+        setup: *const u8,
+        setup_length: usize,
+        start: u64,
+        text: *const u8,
+        text_length: usize,
+        is_end: bool,
+        zones: *mut IndexZone,
+        zones_length: usize,
+        statistics: *mut u8,
+        statistics_length: usize,
+        lengths: &mut IndexLengths,
+        fault: &mut SearchFault,
+    ) -> u32;
+    pub fn doqallin_write_index(
+        setup: *const u8,
+        setup_length: usize,
+        file_length: u64,
+        changed: u64,
+        start: u64,
+        zones: *const IndexZone,
+        zones_length: usize,
+        statistics: *const u8,
+        statistics_length: usize,
+        buffer: *mut u8,
+        buffer_length: usize,
+        count: &mut usize,
         fault: &mut SearchFault,
     ) -> u32;
 }

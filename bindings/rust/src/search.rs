@@ -15,7 +15,7 @@ use std::time::UNIX_EPOCH;
 /// How deep a filter may nest: each level takes stack.
 const DEPTH: usize = 32;
 /// So many bytes are read at once.
-const PIECE: u64 = 4 << 20;
+pub(crate) const PIECE: u64 = 4 << 20;
 /// Columns are guessed from so many bytes.
 const BEGINNING: u64 = 1 << 20;
 /// How many records are found by one call.
@@ -94,7 +94,7 @@ const OF_INDEX: [&str; 5] = [
 ];
 
 /// The error of a status.
-fn refusal(status: u32, fault: &SearchFault) -> SearchError {
+pub(crate) fn refusal(status: u32, fault: &SearchFault) -> SearchError {
     match status {
         raw::NO_MEMORY => out_of_memory(0),
         raw::BAD_FILTER => SearchError::Mistake {
@@ -210,7 +210,7 @@ struct Index<R> {
 }
 
 /// So many bytes from an offset on, or those that are there.
-fn read_at<R: Read + Seek>(
+pub(crate) fn read_at<R: Read + Seek>(
     file: &mut R,
     offset: u64,
     length: u64,
@@ -332,8 +332,8 @@ impl<R: Read + Seek> Index<R> {
 
 /// A CSV file that is searched by a filter, in the words of docs/FILTERS.md.
 ///
-/// A file with an index, which `zone_map index` makes, is read only where rows may match; another one is read whole. Bytes are read
-/// by [`Read`] and [`Seek`], so the file may lie anywhere.
+/// A file with an index, which `zone_map index` or [`index`](Search::index) makes, is read only where rows may match; another one is
+/// read whole. Bytes are read by [`Read`] and [`Seek`], so the file may lie anywhere.
 ///
 /// ```
 /// use doqallin::{Reading, Search};
@@ -349,9 +349,9 @@ impl<R: Read + Seek> Index<R> {
 /// # Ok::<(), doqallin::SearchError>(())
 /// ```
 pub struct Search<R> {
-    file: R,
-    setup: Vec<u8>,
-    start: u64,
+    pub(crate) file: R,
+    pub(crate) setup: Vec<u8>,
+    pub(crate) start: u64,
     index: Option<Index<R>>,
 }
 

@@ -2,7 +2,10 @@ mod Beginnings
 mod ColumnBounds
 mod ColumnEnds
 mod ColumnOrder
+mod CutSteps
 mod FilterSteps
+mod FullZones
+mod IndexSteps
 mod KeyBackSteps
 mod KeySteps
 mod KindTypes

@@ -8,6 +8,10 @@ pub mod FilterLaws
 pub mod Filters
 pub mod FilterSql
 pub mod FilterWords
+pub mod IndexCuts
+pub mod Indexes
+pub mod IndexWords
+pub mod IndexZones
 pub mod Integers
 pub mod KeyColumns
 pub mod KeyWords
@@ -19,6 +23,7 @@ pub mod Searches
 pub mod SearchWords
 pub mod Statistics
 pub mod Statuses
+pub mod ToldZones
 pub mod UpperAnswers
 pub mod Uppers
 pub mod Words

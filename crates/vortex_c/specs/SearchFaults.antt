@@ -1,5 +1,5 @@
 -- Why a search has no answer, as it is told.
-use Rattle.std.specs.Prelude.{◌≡◌, ℕ}
+use Rattle.std.specs.Prelude.{ℕ}
 use Rattle.file_search.specs.declared.index_bytes.PlanError.{PlanError}
 use Rattle.file_search.specs.declared.index_bytes.PlanError.TheVariants as plans
 use Rattle.file_search.specs.declared.sought.SoughtError.{SoughtError}

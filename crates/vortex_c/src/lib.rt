@@ -1,6 +1,6 @@
 // SPDX-License-Identifier: Apache-2.0
 // SPDX-FileCopyrightText: Copyright the Vortex contributors; ported to Rattle and changed
-//! Casts, bounds, pruning, filters, keys, statistics and searches in files for callers from C: the static library
+//! Casts, bounds, pruning, filters, keys, statistics, indexes and searches in files for callers from C: the static library
 //! `libdoqallin`.
 //!
 //! Most calls answer a status. Their clauses say what each status means, and what was written.
@@ -13,6 +13,9 @@ mod depth;
 mod fault;
 mod filters;
 mod giving;
+mod index_cuts;
+mod index_zones;
+mod indexes;
 mod integers;
 mod keys;
 mod keys_back;
@@ -25,4 +28,5 @@ mod sql;
 mod statistics;
 mod status;
 mod version;
+mod zone_making;
 mod zones;

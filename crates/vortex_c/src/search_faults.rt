@@ -89,7 +89,13 @@ pub(crate) fn tell_root(cause: EncodingError, fault: &mut SearchFault) -> u32
 }
 
 /// Tells what is wrong, and gives the status back.
-fn tell(place: u64, column: u64, reason: u32, fault: &mut SearchFault, status: u32) -> u32
+pub(crate) fn tell(
+    place: u64,
+    column: u64,
+    reason: u32,
+    fault: &mut SearchFault,
+    status: u32,
+) -> u32
     ensures status { result ≡ status }
     ensures fault { fault.new ≡ record { place = place; column = column; reason = reason } }
 {
