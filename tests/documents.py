@@ -335,7 +335,7 @@ def of_limits():
         ("docs/FILTERS.md", "- and at most {} connectives and parentheses nest", [nested]),
         ("docs/FILTERS.md", "a chain has at most {} parts", [nested + 1]),
         ("docs/FILTERS.md", "{} if the filter can be False, plus {} if it can be Unknown, plus {} if", bits),
-        ("docs/FILTERS.md", "Rust and Python use {} unless you pass one", [constant("bindings/rust/src/filter.rs", "DEPTH")]),
+        ("docs/FILTERS.md", "In Rust and Python it is {} if you pass none", [constant("bindings/rust/src/filter.rs", "DEPTH")]),
         ("docs/SEARCHES.md", "for each zone of {} records", [int(records)]),
         ("docs/SEARCHES.md", "strings cut to {} bytes", [int(cut)]),
         ("docs/SEARCHES.md", "{} says that the input is above a megabyte and {} that there was no answer; {} says", [*map(int, ends)]),
@@ -363,7 +363,7 @@ def of_tests():
         ("docs/TESTING.md", "that {} random rows in each of {} columns", [constant("tests/keys", "ROWS"), columns]),
         ("docs/TESTING.md", "for {} random filters over {} tables", [tables * each, tables]),
         ("docs/TESTING.md", "for {} random zones", [tables * each * zones]),
-        ("docs/TESTING.md", "the words of {} random values of each logical type", [constant("tests/words", "VALUES")]),
+        ("docs/TESTING.md", "print and read {} random values of each logical type", [constant("tests/words", "VALUES")]),
         ("docs/TESTING.md", "the stored cases of {} calls", [line_after("bench/values", "CALLS = (").count('"') // 2]),
         ("docs/TESTING.md", "which it builds: {} random values of each call", [int(values)]),
     ]
