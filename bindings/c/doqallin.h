@@ -44,7 +44,7 @@ enum {
     DOQALLIN_GIVEN = 0,         /* what was asked for is written */
     DOQALLIN_NONE = 1,          /* there is no such value, or the cast is refused */
     DOQALLIN_NO_MEMORY = 2,     /* an allocation was refused */
-    DOQALLIN_BUFFER_TOO_SMALL = 3, /* a buffer is too small: only the lengths that are needed are written, if any */
+    DOQALLIN_BUFFER_TOO_SMALL = 3, /* a buffer is too small: the lengths that are needed are written, if any */
     DOQALLIN_NOT_UTF8 = 4,      /* a string is not UTF-8 */
     DOQALLIN_NOT_A_NUMBER = 5,  /* a code names no integer type, or the bits are no number of the type */
     DOQALLIN_BAD_OFFSETS = 6,   /* offsets go down, or past the end of the bytes */
@@ -75,8 +75,8 @@ enum { DOQALLIN_BOOL = 8, DOQALLIN_UTF8, DOQALLIN_LARGE_UTF8, DOQALLIN_BINARY, D
 /* Kinds of columns of logical types. Floats sort as in PostgreSQL: a NaN equals each other NaN and is above infinity,
  * and both zeros are equal. Dates are days since 1970-01-01, in 32 bits. Times count from midnight, in 32 bits for
  * seconds and milliseconds and in 64 bits for the other units. Timestamps count from 1970-01-01T00:00:00, in 64 bits;
- * those with a zone count in UTC, whatever its name is. Decimals are stored as integers of so many bits, each the value
- * times 10 to the scale. Only they have a precision: to 9, 18 and 38 digits. Arrow's date64 is read as
+ * those with a zone count in UTC, whatever its name is. Decimals are stored as integers of 32, 64 or 128 bits, each the
+ * value times 10 to the scale. Only they have a precision: to 9, 18 and 38 digits. Arrow's date64 is read as
  * DOQALLIN_TIMESTAMP_MS. */
 enum {
     DOQALLIN_F32 = 14, DOQALLIN_F64, DOQALLIN_DATE32,
@@ -250,9 +250,9 @@ struct doqallin_column_buffers {
  * rows may have none. Keys may come from anywhere: each is tested first, and read once.
  * GIVEN: for each column `validity` has a bit for each row, 0 for a null, in its first (n + 7) / 8 bytes. `values`
  * begins with `count` bytes: items of the kind, 0 for a null; bits of bools; or the bytes of all strings, none for a
- * null. A float that is 0 has no sign, and each NaN has the same bits. For strings and bytes `offsets` begins with n +
- * 1 offsets of 64 bits, even if the kind has offsets of 32 bits. For other kinds it is not written. What follows stays
- * as it was.
+ * null. A float that is 0 has no sign, and each NaN has the same bits. For strings and bytes `offsets` begins with
+ * n + 1 offsets of 64 bits, even if the kind has offsets of 32 bits. For other kinds it is not written. What follows
+ * stays as it was.
  * BUFFER_TOO_SMALL: a buffer is too short. Only the counts are written: how many bytes the values of each column have.
  * To ask for them, give buffers of length 0.
  * WRONG_LENGTH: there are more or fewer options than kinds, or columns than kinds. fault->column is the number of
@@ -450,8 +450,8 @@ uint32_t doqallin_filter_mask(const uint8_t *filter, size_t filter_length, const
  * `null WORD`, for each word that is a null. Then comes a line of four numbers with a blank between two. The first is
  * the delimiter's byte, or 255 if each line is one field. The second is 1 if records are read leniently, otherwise 0.
  * The last two, which may be 0, are how many bytes a bound has at most, and how many records a zone has. Then each
- * column has a line: its kind, as --columns has it without blanks inside, a blank, and its name. So `44 0 0 0`, `i64
- * id`, `utf8? first name`. */
+ * column has a line: its kind, as --columns has it without blanks inside, a blank, and its name. An example has the
+ * lines `44 0 0 0`, `i64 id` and `utf8? first name`. */
 
 /* How many bytes of an index say how long its root is. */
 #define DOQALLIN_INDEX_HEAD 16
