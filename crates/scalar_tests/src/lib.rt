@@ -1,7 +1,7 @@
 // SPDX-License-Identifier: Apache-2.0
 // SPDX-FileCopyrightText: Copyright the Vortex contributors; ported to Rattle and changed
-//! Callers of the laws of every crate, and tests that no worked case can be: unusual hashers,
-//! iterators, readers and writers. They have a crate of their own, so that the crates below are
+//! Callers of the laws of every crate, and tests that no worked case can be: iterators that count,
+//! readers and writers that fail, rare arguments. They have a crate of their own, so that the crates below are
 //! proved once.
 #![tactic(auto)]
 
@@ -14,8 +14,6 @@ pub mod filter_texts;
 #[cfg(test)]
 mod fixtures;
 pub mod float_zones;
-#[cfg(test)]
-mod hashers;
 pub mod indexes;
 #[cfg(test)]
 mod items;
@@ -54,10 +52,6 @@ mod tour;
 pub mod type_laws;
 pub mod value_laws;
 pub mod view_laws;
-#[cfg(test)]
-mod views;
-#[cfg(test)]
-mod whole_runs;
 pub mod words_of_values;
 pub mod words_to_rows;
 pub mod zone_statistics;
