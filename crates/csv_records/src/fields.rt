@@ -1,7 +1,7 @@
 //! Fields are cut from the front of a record.
 
 ghost use Rattle.std.specs.Prelude.{◌≡◌, ◌≢◌, ◌⊎◌, ◌∷◌, ◌++◌, ◌≤◌, [], ℕ, List, Bool, true, false, IfNone, IfOk};
-ghost use Rattle.std.specs.Prelude.{IfSome, drop, length, take, if◌then◌else◌};
+ghost use Rattle.std.specs.Prelude.{IfSome, IsOk, drop, length, take, if◌then◌else◌};
 ghost use Rattle.csv.specs.declared.parser.State.TheVariants.{AfterQuote, InField, InQuoted, StartField};
 ghost use Rattle.csv_records.specs.Words.{AreBare, BeginsBare, HasNoFront, IsCut, field_rows, rows_of};
 
@@ -50,18 +50,20 @@ pub fn row_start(line: &[u8]) -> &[u8]
 }
 
 /// Cuts the first field of a text that begins where a field does. The bytes of one in quotes go to
-/// the buffer, without the quotes around them and with one quote for two.
+/// the buffer, without the quotes around them and with one quote for two. No other field is refused.
 #[inline(always)]
 pub fn cut_field<'a>(
     delimiter: Delimiter,
     text: &'a [u8],
     buffer: &mut Vec<u8>,
 ) -> Result<CutField<'a>, AllocError>
-    ensures { IfOk result (λ cut. IsCut delimiter.byte StartField [] false text.now
+    ensures cut { IfOk result (λ cut. IsCut delimiter.byte StartField [] false text.now
         (record {
           text = if cut.is_quoted then buffer.new.items else cut.bare.now;
           is_quoted = cut.is_quoted;
         }) cut.follows) }
+    // A field without quotes takes no memory.
+    ensures bare { BeginsBare text.now → IsOk result }
 {
     match after_quote(text) {
         Some(rest) => {

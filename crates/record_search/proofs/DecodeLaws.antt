@@ -183,7 +183,7 @@ value_content (kinds.Logical l) n (raw_tuple vs) h = value_stored (id_of l) (met
 value_content (kinds.Logical l) n (raw_union i v) h = value_stored (id_of l) (metadata_of l) (storage_type_of l) n (raw_union i v) (λ e. cc) h
 value_content (kinds.Logical l) n (raw_variant t v) h = value_stored (id_of l) (metadata_of l) (storage_type_of l) n (raw_variant t v) (λ e. cc) h
 
-no_variant : (kind : Kind) (n : Nullability) → HasNoVariant (type_by kind n)
+pub no_variant : (kind : Kind) (n : Nullability) → HasNoVariant (type_by kind n)
 no_variant (kinds.Integer k) n = tt
 no_variant kinds.Utf8 n = tt
 no_variant kinds.Binary n = tt
@@ -300,7 +300,7 @@ pub said_of : (column : ColumnType) (piece : List ℕ) (s : Known) → statistic
 said_of column [] s e = sym (first_known nothing_known s e)
 said_of column (b ∷ bytes) s e = let r = read_is column (b ∷ bytes) s e in (r.of, r.is)
 
-found_in : (column : ColumnType) (piece : List ℕ) (s : Known) → Says (column_type column) piece s → statistics_in column piece ≡ Some s
+pub found_in : (column : ColumnType) (piece : List ℕ) (s : Known) → Says (column_type column) piece s → statistics_in column piece ≡ Some s
 found_in column [] s said = ap (λ (t : Known). Some t) (sym said)
 found_in column (b ∷ bytes) s said = is_read column (b ∷ bytes) s said.0 said.1
 

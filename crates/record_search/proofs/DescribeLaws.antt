@@ -14,7 +14,7 @@ use Rattle.vortex_dtype.specs.TypeTree.{Same, TypeTree}
 use Rattle.vortex_dtype.specs.declared.nullability.Nullability.TheVariants.{NonNullable}
 use Rattle.filter_pruning.specs.Pruning.{column}
 use Rattle.vortex_cells.specs.Cells.{Cell, IsUpTo, cell_order, order_from_above}
-use Rattle.statistics_bytes.specs.Encoding.{IsHeldKnown, encoding}
+use Rattle.statistics_bytes.specs.Encoding.{AreOf, IsHeldKnown, encoding}
 use Rattle.statistics_bytes.specs.EncodingAnswers.{AreTyped}
 use Rattle.vortex_statistics.specs.Statistics.{AreRight, IsLowerBound, IsUpperBound, known, known_bound}
 use Rattle.vortex_statistics.specs.Truncating.{IsTruncatedLower, IsTruncatedUpper}
@@ -140,9 +140,11 @@ described_more columns rows k n s output new below of before cut right held fits
 
 -- the same, of all that is to be known
 pub fully_more : (columns : List ColumnType) (rows : List (List Cell)) (k n : ℕ) (s : ColumnStatistics) (output new : List ℕ) → k < length columns → AreRowsOf columns rows → AreDescribedFully n (take k columns) rows output
-    → IsCutOf n (column k rows) s → AreRight (known s) (column k rows) → IsHeldKnown (known s) → length (encoding (known s)) < 2 ^ 64 → new ≡ output ++ bytes_encoding (encoding (known s)) → AreDescribedFully n (take (k + 1) columns) rows new
-fully_more columns rows k n s output new below of before cut right held fits appended =
-    described_by (IsFullOf n) columns rows k (encoding (known s)) output new below before (right_encoding columns rows k n s below of cut right held fits, record { statistics = s; cut = cut; is = refl }) appended
+    → IsCutOf n (column k rows) s → AreRight (known s) (column k rows) → IsHeldKnown (known s) → AreOf (column_type (get_or columns k some_column)) (known s) → length (encoding (known s)) < 2 ^ 64 → new ≡ output ++ bytes_encoding (encoding (known s))
+    → AreDescribedFully n (take (k + 1) columns) rows new
+fully_more columns rows k n s output new below of before cut right held of_type fits appended =
+    described_by (IsFullOf n) columns rows k (encoding (known s)) output new below before
+    (right_encoding columns rows k n s below of cut right held fits, record { statistics = s; of_type = of_type; right = right; cut = cut; is = refl }) appended
 
 -- ---- records
 

@@ -23,7 +23,7 @@ use Rattle.record_search.proofs.ReadBack.{piece_fits}
 abbrev AllFit : List (List ℕ) → Type 0
 AllFit ps = AllByRecursion (λ p. length p < 2 ^ 64) ps
 
-encodings_fit : (k : ℕ) (cs : List ColumnType) (rows : List (List Cell)) (ps : List (List ℕ)) → AreEncoded IsRightOf k cs rows ps → AllFit ps
+pub encodings_fit : (k : ℕ) (cs : List ColumnType) (rows : List (List Cell)) (ps : List (List ℕ)) → AreEncoded IsRightOf k cs rows ps → AllFit ps
 encodings_fit k [] rows [] h = tt
 encodings_fit k [] rows (p ∷ ps) h = absurd h
 encodings_fit k (c ∷ cs) rows [] h = absurd h

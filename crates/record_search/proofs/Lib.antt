@@ -3,9 +3,11 @@ pub mod DecodeLaws
 pub mod Decoded
 pub mod DescribeLaws
 pub mod FoundLaws
+pub mod FullLaws
 pub mod LessIndex
 pub mod NamedLaws
 pub mod ObserveLaws
+pub mod PieceLaws
 pub mod ReadBack
 pub mod ReadColumns
 pub mod RefusedLaws

@@ -1,5 +1,5 @@
 -- The rows of records are observed, one after another.
-use Rattle.std.proofs.Common.{◌≡◌, ◌<◌, ◌≤◌, ◌+◌, ◌^◌, ◌++◌, ℕ, zero, suc, List, [], ◌∷◌, Bool, true, false, if◌then◌else◌, Option, None, Some, Result, Ok, Err, IfSome, MatchOption, Ordering, is_none, is_some, unwrap_or, refl, sym, ap, ◌∙◌, subst, get_or, length, map, take, arith, nat_lt, append_assoc, append-nil, length-append}
+use Rattle.std.proofs.Common.{◌≡◌, ◌<◌, ◌≤◌, ◌+◌, ◌^◌, ◌++◌, ℕ, zero, suc, List, [], ◌∷◌, Bool, true, false, if◌then◌else◌, Option, None, Some, Result, Ok, Err, IfSome, MatchOption, Ordering, is_none, is_some, option_map, unwrap_or, refl, sym, ap, ◌∙◌, subst, get_or, length, map, take, arith, nat_lt, append_assoc, append-nil, length-append}
 use Rattle.std.specs.Int.{from_bool}
 use Rattle.std.specs.List.{AllByRecursion, filter_map, sum_by}
 use Rattle.std.specs.Prelude.{OnOk}
@@ -13,21 +13,26 @@ use Rattle.record_rows.specs.Rows.{fitted, refused_of}
 use Rattle.record_rows.specs.declared.observing.RowNotes.{RowNotes}
 use Rattle.record_rows.specs.declared.schema.ColumnType.{ColumnType}
 use Rattle.record_rows.specs.declared.schema.Schema.{Schema}
-use Rattle.record_rows.specs.Observed.{AreFieldsObserved, HaveTypes, IsObserved, IsStep, IsTakenAs, SomeIsFull, Step, cell_in}
+use Rattle.record_rows.specs.Observed.{AreFieldsObserved, HasBoundsOf, HaveTypes, IsObserved, IsStep, IsTakenAs, SomeIsFull, Step, cell_in}
 use Rattle.vortex_filter.specs.Formula.{cell_at}
 use Rattle.filter_pruning.specs.Pruning.{column}
 use Rattle.vortex_cells.specs.Cells.{Cell, cell_order, order_from_above}
-use Rattle.vortex_dtype.specs.TypeTree.{TypeTree}
-use Rattle.statistics_bytes.specs.Encoding.{IsHeldKnown, encoding}
-use Rattle.vortex_statistics.specs.Statistics.{AreComplete, AreRight, IsBound, KnownBound, known}
-use Rattle.vortex_statistics.specs.Truncating.{AreTruncated}
+use Rattle.vortex_dtype.specs.TypeTree.{TypeTree, binary_type, utf8_type}
+use Rattle.statistics_bytes.specs.Encoding.{AreOf, IsBoundOf, IsHeldBound, IsHeldKnown, encoding}
+use Rattle.vortex_statistics.specs.Statistics.{AreComplete, AreRight, HasValidBounds, IsBound, IsValidBound, KnownBound, known, known_bound}
+use Rattle.vortex_statistics.specs.Truncating.{AreTruncated, IsTruncatedLower, IsTruncatedUpper, LowerAt, UpperAt}
+use Rattle.vortex_statistics.specs.declared.column_statistics.Bound.{Bound}
 use Rattle.vortex_statistics.specs.declared.column_statistics.ColumnStatistics.{ColumnStatistics}
+use Rattle.vortex_value.specs.Validity.{Valid}
 use Rattle.vortex_value.specs.Values.Content.{Content}
+use Rattle.vortex_value.specs.Values.RawTree.{RawTree, raw_bytes, raw_text}
+use Rattle.vortex_value.specs.Values.Scalars.{scalar_raw, scalar_type}
 use Rattle.zone_index.specs.Encoding.{bytes_encoding}
 use Rattle.zone_index.specs.Sinks.{told}
 use Rattle.record_search.specs.Contents.{cells_of, field_content, only_row, row_of}
-use Rattle.record_search.specs.Searched.{AreAllComplete, AreAllWith, AreDescribed, AreDescribedFully, AreRowsOf, IsCutOf, IsFullOf, IsRightOf, ObservesRow, PushesCut, is_refused, longer_of, longer_under, nulls_under, row_under, strict, untaken, untaken_of}
-use Rattle.record_search.proofs.DescribeLaws.{all_described, described_more, fully_more, none_described, row_pushed, rows_more}
+use Rattle.record_search.specs.Searched.{AreAllComplete, AreAllValid, AreAllWith, AreDescribed, AreDescribedFully, AreRowsOf, IsCutOf, IsFullOf, IsRightOf, ObservesRow, PushesCut, is_refused, longer_of, longer_under, nulls_under, row_under, strict, untaken, untaken_of}
+use Rattle.record_search.proofs.DescribeLaws.{all_described, described_more, fully_more, none_described, row_pushed, rows_more, some_column}
+use Rattle.record_search.proofs.DecodeLaws.{no_variant}
 use Rattle.record_search.proofs.RefusedLaws.{passed_none, passed_row}
 use Rattle.record_search.proofs.RowLaws.{WordsSay, cell_field, no_content, no_row, null_field}
 
@@ -71,6 +76,18 @@ passed_observed say s line old new None h = passed_none s line h.0
 passed_observed say s line old new (Some n) h =
     let some = observes_some (row_under s line) old new (row_observed say s.delimiter.byte s.reading s.columns.items line old new (Some n) h) in
     passed_row s line some.0 some.1
+
+-- ---- valid bounds
+
+steps_valid : (l : Reading) (steps : List Step) → AllByRecursion (IsStep l) steps → AreAllValid (map (λ s. s.old) steps) → AreAllValid (map (λ s. s.new) steps)
+steps_valid l [] h valid = tt
+steps_valid l (s ∷ steps) h valid = (h.0.2 valid.0, steps_valid l steps h.1 valid.1)
+
+-- bounds stay valid
+pub valid_observed : (s : Schema) (line : List ℕ) (old new : List ColumnStatistics) (notes : Option RowNotes) → MatchOption notes ((rows_of s.delimiter.byte line ≡ []) × (new ≡ old)) (IsObserved s.delimiter.byte s.reading s.columns.items line old new)
+    → AreAllValid old → AreAllValid new
+valid_observed s line old new None h valid = subst AreAllValid (sym h.1) valid
+valid_observed s line old new (Some n) h valid = subst AreAllValid (sym h.2.0.new_are) (steps_valid s.reading h.2.0.steps h.2.0.each (subst AreAllValid h.2.0.old_are valid))
 
 -- ---- nulls in place of fields
 
@@ -257,6 +274,92 @@ none_typed columns ss h k c s below within =
       upper = no_bound t order_from_above (known (get_or ss k s)).upper none.right.upper none.exact.upper;
     }
 
+no_valid : (cmp : Cell → Cell → Option Ordering) (b : Option Bound) → IfSome (option_map known_bound b) (λ b. IsBound cmp b []) → IfSome (option_map known_bound b) (λ b. b.is_exact ≡ true) → IsValidBound b
+no_valid cmp None bounds exact = tt
+no_valid cmp (Some b) bounds exact = let value = bounds.exact exact in absurd (omega (arith, value.1.cell.1))
+
+valid_from : (k : ℕ) (ss : List ColumnStatistics) → AreAllComplete k [] ss → AreAllValid ss
+valid_from k [] h = tt
+valid_from k (s ∷ ss) h =
+    (record { lower = no_valid cell_order s.lower h.0.right.lower h.0.exact.lower; upper = no_valid order_from_above s.upper h.0.right.upper h.0.exact.upper }, valid_from (suc k) ss h.1)
+
+pub none_valid : (ss : List ColumnStatistics) → AreAllComplete 0 [] ss → AreAllValid ss
+none_valid ss h = valid_from 0 ss h
+
+-- ---- values of the columns
+
+lower_type : (t : TypeTree) (v : RawTree) (n : ℕ) (b c : Bound) → scalar_type b.value ≡ t → LowerAt t v n b c → scalar_type c.value ≡ t
+lower_type (utf8_type k) (raw_text bs) n b c typed h = h.bound.bound.made.typed
+lower_type (binary_type k) (raw_bytes bs) n b c typed h = h.bound.bound.made.typed
+lower_type t v n b c typed h = let P : Bound → Type 0 = λ d. scalar_type d.value ≡ t in subst P (sym h) typed
+
+-- the bound is there, and is of this type
+abbrev IsTypedBound : TypeTree → Option Bound → Type 0
+IsTypedBound t b = IfSome b (λ b. scalar_type b.value ≡ t)
+
+upper_type : (t : TypeTree) (v : RawTree) (n : ℕ) (b : Bound) (c : Option Bound) → scalar_type b.value ≡ t → UpperAt t v n b c → IsTypedBound t c
+upper_type (utf8_type k) (raw_text bs) n b None typed h = tt
+upper_type (utf8_type k) (raw_text bs) n b (Some c) typed h = h.bound.bound.made.typed
+upper_type (binary_type k) (raw_bytes bs) n b None typed h = tt
+upper_type (binary_type k) (raw_bytes bs) n b (Some c) typed h = h.bound.bound.made.typed
+upper_type t v n b c typed h = subst (IsTypedBound t) (sym h) typed
+
+cut_lower : (t : TypeTree) (n : ℕ) (b c : Option Bound) → IfSome (option_map known_bound b) (λ b. b.value.typed ≡ t) → IsTruncatedLower n b c → IsTypedBound t c
+cut_lower t n None c typed h = subst (IsTypedBound t) (sym h) tt
+cut_lower t n (Some b) None typed h = absurd h
+cut_lower t n (Some b) (Some c) typed h = lower_type (scalar_type b.value) (scalar_raw b.value) n b c refl h ∙ typed
+
+cut_upper : (t : TypeTree) (n : ℕ) (b c : Option Bound) → IfSome (option_map known_bound b) (λ b. b.value.typed ≡ t) → IsTruncatedUpper n b c → IsTypedBound t c
+cut_upper t n None c typed h = subst (IsTypedBound t) (sym h) tt
+cut_upper t n (Some b) c typed h = subst (λ (u : TypeTree). IsTypedBound u c) typed (upper_type (scalar_type b.value) (scalar_raw b.value) n b c refl h)
+
+bound_value : (c : ColumnType) (b : Option Bound) → IsTypedBound (column_type c) b → IsValidBound b → IsHeldBound (option_map known_bound b) → IsBoundOf (column_type c) (option_map known_bound b)
+bound_value c None typed valid held = tt
+bound_value c (Some b) typed valid held =
+    record {
+      typed = typed;
+      ordered = no_variant c.kind c.nullability;
+      value = scalar_raw b.value;
+      is_value = record { valid = subst (λ (t : TypeTree). Valid t (scalar_raw b.value)) typed valid; held = held };
+      is = refl;
+    }
+
+-- valid bounds of a column's type are its values, also where they are cut
+pub cut_of_type : (c : ColumnType) (n : ℕ) (s cut : ColumnStatistics) → AreTruncated n s cut → HasBoundsOf (column_type c) (known s) → HasValidBounds cut → IsHeldKnown (known cut) → AreOf (column_type c) (known cut)
+cut_of_type c n s cut truncated typed valid held = record {
+  rows = held.rows;
+  nulls = held.nulls;
+  lower = bound_value c cut.lower (cut_lower (column_type c) n s.lower cut.lower typed.lower truncated.lower) valid.lower held.lower;
+  upper = bound_value c cut.upper (cut_upper (column_type c) n s.upper cut.upper typed.upper truncated.upper) valid.upper held.upper;
+}
+
+-- the bounds of each column's statistics are valid and of its type
+pub record AreReady (columns : List ColumnType) (ss : List ColumnStatistics) : Type 0 where
+  pub typed : HaveTypes columns ss
+  pub valid : AreAllValid ss
+
+front_at : (ss : List ColumnStatistics) (s d : ColumnStatistics) (k : ℕ) → k < length ss → get_or (ss ++ s ∷ []) k d ≡ get_or ss k d
+front_at [] s d k h = absurd (omega (arith, h))
+front_at (x ∷ ss) s d zero h = refl
+front_at (x ∷ ss) s d (suc k) h = front_at ss s d k (omega (arith, h))
+
+last_at : (ss : List ColumnStatistics) (s d : ColumnStatistics) → get_or (ss ++ s ∷ []) (length ss) d ≡ s
+last_at [] s d = refl
+last_at (x ∷ ss) s d = last_at ss s d
+
+valid_split : (ss : List ColumnStatistics) (s : ColumnStatistics) → AreAllValid (ss ++ s ∷ []) → AreAllValid ss × HasValidBounds s
+valid_split [] s h = (tt, h.0)
+valid_split (x ∷ ss) s h = let p = valid_split ss s h.1 in ((h.0, p.0), p.1)
+
+front_ready : (columns : List ColumnType) (ss : List ColumnStatistics) (s : ColumnStatistics) → AreReady columns (ss ++ s ∷ []) → AreReady columns ss
+front_ready columns ss s h = record {
+  typed = λ k c d below within. subst (λ (x : ColumnStatistics). HasBoundsOf (column_type (get_or columns k c)) (known x)) (front_at ss s d k within) (h.typed k c d below (omega (arith, within, length-append ss (s ∷ []))));
+  valid = (valid_split ss s h.valid).0;
+}
+
+last_typed : (columns : List ColumnType) (ss : List ColumnStatistics) (s : ColumnStatistics) (c : ColumnType) → length ss < length columns → AreReady columns (ss ++ s ∷ []) → HasBoundsOf (column_type (get_or columns (length ss) c)) (known s)
+last_typed columns ss s c below h = subst (λ (x : ColumnStatistics). HasBoundsOf (column_type (get_or columns (length ss) c)) (known x)) (last_at ss s s) (h.typed (length ss) c s below (omega (arith, length-append ss (s ∷ []))))
+
 -- ---- their encodings
 
 complete_split : (k : ℕ) (rows : List (List Cell)) (ss : List ColumnStatistics) (s : ColumnStatistics) → AreAllComplete k rows (ss ++ s ∷ []) → AreAllComplete k rows ss × AreComplete (known s) (column (k + length ss) rows)
@@ -266,12 +369,13 @@ complete_split k rows (r ∷ ss) s h =
     let e : suc k + length ss ≡ k + suc (length ss) = omega arith in
     ((h.0, p.0), subst (λ (j : ℕ). AreComplete (known s) (column j rows)) e p.1)
 
--- the encodings of the first columns' statistics describe these, for any rows that the statistics are complete for, and fully
+-- the encodings of the first columns' statistics describe these, for any rows that the statistics are complete for, and fully,
+-- if their bounds are values of the columns
 abbrev pub AreEncodingsOf : List ColumnType → ℕ → List ColumnStatistics → List ℕ → Type 0
-AreEncodingsOf columns n ss output = (rows : List (List Cell)) → AreRowsOf columns rows → AreAllComplete 0 rows ss → AreDescribed (take (length ss) columns) rows output × AreDescribedFully n (take (length ss) columns) rows output
+AreEncodingsOf columns n ss output = (rows : List (List Cell)) → AreRowsOf columns rows → AreAllComplete 0 rows ss → AreDescribed (take (length ss) columns) rows output × (AreReady columns ss → AreDescribedFully n (take (length ss) columns) rows output)
 
 pub no_encodings : (columns : List ColumnType) (n : ℕ) (output : List ℕ) → output ≡ [] → AreEncodingsOf columns n [] output
-no_encodings columns n output e rows are all = (none_described IsRightOf columns rows output e, none_described (IsFullOf n) columns rows output e)
+no_encodings columns n output e rows are all = (none_described IsRightOf columns rows output e, λ ready. none_described (IsFullOf n) columns rows output e)
 
 pub encoding_more : (columns : List ColumnType) (n : ℕ) (ss : List ColumnStatistics) (s : ColumnStatistics) (output new : List ℕ) → length ss < length columns → AreEncodingsOf columns n ss output → PushesCut n s output new → AreEncodingsOf columns n (ss ++ s ∷ []) new
 encoding_more columns n ss s output new below before pushed rows are all =
@@ -282,26 +386,28 @@ encoding_more columns n ss s output new below before pushed rows are all =
     let complete : AreComplete (known s) (column k rows) = subst (λ (j : ℕ). AreComplete (known s) (column j rows)) at p.1 in
     let cut : IsCutOf n (column k rows) pushed.cut = record { whole = s; complete = complete; cut = pushed.truncated } in
     let was = before rows are p.0 in
-    subst (λ (j : ℕ). AreDescribed (take j columns) rows new × AreDescribedFully n (take j columns) rows new) long (
+    subst (λ (j : ℕ). AreDescribed (take j columns) rows new × (AreReady columns (ss ++ s ∷ []) → AreDescribedFully n (take j columns) rows new)) long (
       described_more columns rows k n pushed.cut output new below are was.0 cut (pushed.right (column k rows) complete.right) pushed.held pushed.fits pushed.appended,
-      fully_more columns rows k n pushed.cut output new below are was.1 cut (pushed.right (column k rows) complete.right) pushed.held pushed.fits pushed.appended,
+      λ ready. let valid = (valid_split ss s ready.valid).1 in
+          let of_type = cut_of_type (get_or columns k some_column) n s pushed.cut pushed.truncated (last_typed columns ss s some_column below ready) (pushed.valid valid) pushed.held in
+          fully_more columns rows k n pushed.cut output new below are (was.1 (front_ready columns ss s ready)) cut (pushed.right (column k rows) complete.right) pushed.held of_type pushed.fits pushed.appended,
     )
 
 -- what is pushed, if it is
 pub cut_pushed : {T E : Type 0} (r : Result T E) (n : ℕ) (s cut : ColumnStatistics) (old new : List ℕ) → AreTruncated n s cut → ((cells : List Cell) → AreRight (known s) cells → AreRight (known cut) cells)
-    → OnOk r (new ≡ old ++ bytes_encoding (encoding (known cut))) → OnOk r (IsHeldKnown (known cut)) → OnOk r (length (encoding (known cut)) < 2 ^ 64) → OnOk r (PushesCut n s old new)
-cut_pushed (Ok x) n s cut old new truncated right appended held fits = record { cut = cut; truncated = truncated; right = right; held = held; fits = fits; appended = appended }
-cut_pushed (Err e) n s cut old new truncated right appended held fits = tt
+    → (HasValidBounds s → HasValidBounds cut) → OnOk r (new ≡ old ++ bytes_encoding (encoding (known cut))) → OnOk r (IsHeldKnown (known cut)) → OnOk r (length (encoding (known cut)) < 2 ^ 64) → OnOk r (PushesCut n s old new)
+cut_pushed (Ok x) n s cut old new truncated right valid appended held fits = record { cut = cut; truncated = truncated; right = right; valid = valid; held = held; fits = fits; appended = appended }
+cut_pushed (Err e) n s cut old new truncated right valid appended held fits = tt
 
 all_encodings : (columns : List ColumnType) (n : ℕ) (ss : List ColumnStatistics) (output : List ℕ) → length ss ≡ length columns → AreEncodingsOf columns n ss output → (rows : List (List Cell)) → AreRowsOf columns rows → AreAllComplete 0 rows ss
-    → AreDescribed columns rows output × AreDescribedFully n columns rows output
+    → AreDescribed columns rows output × (AreReady columns ss → AreDescribedFully n columns rows output)
 all_encodings columns n ss output same h rows are all =
     let p = h rows are all in
-    (all_described IsRightOf columns rows (length ss) output (omega (arith, same)) p.0, all_described (IsFullOf n) columns rows (length ss) output (omega (arith, same)) p.1)
+    (all_described IsRightOf columns rows (length ss) output (omega (arith, same)) p.0, λ ready. all_described (IsFullOf n) columns rows (length ss) output (omega (arith, same)) (p.1 ready))
 
 -- no column is left
 pub columns_done : (columns : List ColumnType) (n : ℕ) (ss rest given : List ColumnStatistics) (output : List ℕ) → rest ≡ [] → ss ++ rest ≡ given → length given ≡ length columns → AreEncodingsOf columns n ss output → (rows : List (List Cell)) → AreRowsOf columns rows → AreAllComplete 0 rows given
-    → AreDescribed columns rows output × AreDescribedFully n columns rows output
+    → AreDescribed columns rows output × (AreReady columns given → AreDescribedFully n columns rows output)
 columns_done columns n ss rest given output none parts same h =
     let all : ss ≡ given = sym (append-nil ss) ∙ ap (λ (l : List ColumnStatistics). ss ++ l) (sym none) ∙ parts in
     all_encodings columns n given output same (subst (λ (l : List ColumnStatistics). AreEncodingsOf columns n l output) all h)

@@ -34,7 +34,7 @@ pub piece_fits : (t : TypeTree) (cells : List Cell) (piece : List ℕ) → (piec
 piece_fits t cells piece (inl none) = let e : length piece ≡ 0 = ap length none in omega (arith, e)
 piece_fits t cells piece (inr h) = h.fits
 
-piece_again : (p rest : List ℕ) → length p < 2 ^ 64 → piece_in (bytes_encoding p ++ rest) ≡ Some (p, rest)
+pub piece_again : (p rest : List ℕ) → length p < 2 ^ 64 → piece_in (bytes_encoding p ++ rest) ≡ Some (p, rest)
 piece_again p rest fits =
     let front = to_le_bytes w64 (length p) in
     let parts : bytes_encoding p ++ rest ≡ front ++ (p ++ rest) = append_assoc front p rest in

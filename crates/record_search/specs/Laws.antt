@@ -1,5 +1,5 @@
 -- Laws of rows and statistics in a search.
-use Rattle.std.specs.Prelude.{◌≡◌, ◌↔◌, ◌++◌, ℕ, List, [], Bool, not, Option, None, Some, Ok, length, map}
+use Rattle.std.specs.Prelude.{◌≡◌, ◌↔◌, ◌++◌, ℕ, suc, List, [], ◌∷◌, Bool, not, Option, None, Some, Ok, length, map}
 use Rattle.std.specs.Io.KnownBytes.{Appends}
 use Rattle.std.specs.List.{AllPass}
 use Rattle.csv_records.specs.Rows.{rows_of}
@@ -8,11 +8,13 @@ use Rattle.record_rows.specs.Readings.{Reading}
 use Rattle.record_rows.specs.Rows.{IsRow}
 use Rattle.record_rows.specs.declared.schema.ColumnType.{ColumnType}
 use Rattle.vortex_filter.specs.Formula.{Formula}
-use Rattle.vortex_cells.specs.Cells.{cell_of}
-use Rattle.vortex_statistics.specs.Statistics.{Known}
+use Rattle.filter_pruning.specs.Pruning.{column}
+use Rattle.vortex_cells.specs.Cells.{Cell, cell_of}
+use Rattle.vortex_statistics.specs.Statistics.{AreRight, Known, known}
+use Rattle.vortex_statistics.specs.declared.column_statistics.ColumnStatistics.{ColumnStatistics}
 use Rattle.vortex_value.specs.declared.scalars.Scalar.{Scalar}
 use Rattle.statistics_bytes.specs.Pieces.{Says}
-use Rattle.zone_index.specs.Encoding.{FitsEncoding, index_value, wanted_of}
+use Rattle.zone_index.specs.Encoding.{FitsEncoding, HavePieces, index_value, wanted_of, zone_values}
 use Rattle.zone_index.specs.Records.{is_same}
 use Rattle.zone_index.specs.Sinks.{written_of}
 use Rattle.zone_index.specs.declared.encoding.Index.{Index}
@@ -21,8 +23,8 @@ use Rattle.zone_index.specs.declared.search.Tally.{Tally}
 use Rattle.zone_index.specs.declared.zones.Zone.{Zone}
 use Rattle.record_search.specs.Answers.{AnswersFindRows}
 use Rattle.record_search.specs.Contents.{row_of}
-use Rattle.record_search.specs.Decoding.{statistics_in}
-use Rattle.record_search.specs.Searched.{DescribeRows, IsRowIndex, decision_of, has_row, matches_record, records_under}
+use Rattle.record_search.specs.Decoding.{columns_in, statistics_in}
+use Rattle.record_search.specs.Searched.{DescribeRows, DescribeRowsFully, IsCutOf, IsRowIndex, decision_of, has_row, matches_record, records_under, rows_under}
 use Rattle.record_rows.specs.declared.schema.Schema.{Schema}
 
 -- the computed row is the one that is read, whatever stands in place of a cell; without rows there is none
@@ -35,6 +37,27 @@ pub record RowsAreRead : Type 0 where
 -- the computed statistics are those that the piece says
 abbrev pub PiecesAreRead : Type 0
 PiecesAreRead = (column : ColumnType) (piece : List ℕ) (s : Known) → (statistics_in column piece ≡ Some s) ↔ Says (column_type column) piece s
+
+-- the statistics of each column, from this place on, are right for its cells in the rows, and say all that is to be known of them
+-- with bounds cut to so many bytes
+abbrev pub AreAllCut : ℕ → ℕ → List (List Cell) → List ColumnStatistics → Type 0
+AreAllCut n k rows [] = Unit {0}
+AreAllCut n k rows (s ∷ ss) = AreRight (known s) (column k rows) × IsCutOf n (column k rows) s × AreAllCut n (suc k) rows ss
+
+-- such statistics, one of each column, are read of the bytes
+pub record AreReadOf (n : ℕ) (s : Schema) (rows : List (List Cell)) (bytes : List ℕ) : Type 0 where
+  pub statistics : List ColumnStatistics
+  pub count : length statistics ≡ length s.columns.items
+  pub read : columns_in s.columns.items bytes ≡ Some (map known statistics)
+  pub each : AreAllCut n 0 rows statistics
+
+-- what a describer says of records is read, and says of their rows what it is to say
+abbrev pub DescribedIsRead : Type 0
+DescribedIsRead = (n : ℕ) (s : Schema) (bytes : List ℕ) (records : List (List ℕ)) → DescribeRowsFully n s bytes records → AreReadOf n s (rows_under s records) bytes
+
+-- the statistics of the zones of an index that is right for bytes are a piece for each column, which has an encoding
+abbrev pub RightIndexesHavePieces : Type 0
+RightIndexesHavePieces = (s : Schema) (start : ℕ) (zones : List Zone) (bytes : List ℕ) → IsRowIndex s start zones bytes → (pieces : List (List (List ℕ))) × HavePieces (length s.columns.items) (zone_values zones) pieces
 
 -- where statistics that are right for records decide that none matches, none does, and where they decide that each does, each
 -- does that has a row

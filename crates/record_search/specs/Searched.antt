@@ -15,10 +15,10 @@ use Rattle.filter_pruning.specs.OutcomeSets.{is_only_true}
 use Rattle.filter_pruning.specs.Pruning.{column}
 use Rattle.filter_pruning.specs.declared.outcomes.Outcomes.{Outcomes}
 use Rattle.vortex_cells.specs.Cells.{Cell, cell_of}
-use Rattle.statistics_bytes.specs.Encoding.{IsHeldKnown, encoding}
+use Rattle.statistics_bytes.specs.Encoding.{AreOf, IsHeldKnown, encoding}
 use Rattle.statistics_bytes.specs.EncodingAnswers.{AreTyped}
 use Rattle.vortex_statistics.specs.Observing.{IsCompleteWith}
-use Rattle.vortex_statistics.specs.Statistics.{AreComplete, AreRight, Known, known}
+use Rattle.vortex_statistics.specs.Statistics.{AreComplete, AreRight, HasValidBounds, Known, known}
 use Rattle.vortex_statistics.specs.Truncating.{AreTruncated}
 use Rattle.vortex_statistics.specs.declared.column_statistics.ColumnStatistics.{ColumnStatistics}
 use Rattle.vortex_value.specs.declared.scalars.Scalar.{Scalar}
@@ -104,18 +104,26 @@ pub record IsCutOf (n : ℕ) (cells : List Cell) (s : ColumnStatistics) : Type 0
   pub complete : AreComplete (known whole) cells
   pub cut : AreTruncated n whole s
 
--- the encoding of statistics with bounds cut to so many bytes is appended, after its length; they are right where the whole ones are
+-- the bounds of the statistics of each column are valid scalars
+abbrev pub AreAllValid : List ColumnStatistics → Type 0
+AreAllValid ss = AllByRecursion HasValidBounds ss
+
+-- the encoding of statistics with bounds cut to so many bytes is appended, after its length; they are right where the whole ones
+-- are, and their bounds valid where those are
 pub record PushesCut (n : ℕ) (s : ColumnStatistics) (old new : List ℕ) : Type 0 where
   pub cut : ColumnStatistics
   pub truncated : AreTruncated n s cut
   pub right : (cells : List Cell) → AreRight (known s) cells → AreRight (known cut) cells
+  pub valid : HasValidBounds s → HasValidBounds cut
   pub held : IsHeldKnown (known cut)
   pub fits : length (encoding (known cut)) < 2 ^ 64
   pub appended : new ≡ old ++ bytes_encoding (encoding (known cut))
 
--- the bytes are the encoding of such statistics
-pub record IsFullEncoding (n : ℕ) (cells : List Cell) (bytes : List ℕ) : Type 0 where
+-- the bytes are the encoding of such statistics, which are right, and whose bounds are values of the type: so they are read back
+pub record IsFullEncoding (n : ℕ) (t : TypeTree) (cells : List Cell) (bytes : List ℕ) : Type 0 where
   pub statistics : ColumnStatistics
+  pub of_type : AreOf t (known statistics)
+  pub right : AreRight (known statistics) cells
   pub cut : IsCutOf n cells statistics
   pub is : bytes ≡ encoding (known statistics)
 
@@ -134,7 +142,7 @@ IsRightOf c cells bytes = (bytes ≡ []) ⊎ IsRightEncoding (column_type c) cel
 
 -- so that it says all that is to be known
 abbrev pub IsFullOf : ℕ → ColumnType → List Cell → List ℕ → Type 0
-IsFullOf n c cells bytes = IsRightEncoding (column_type c) cells bytes × IsFullEncoding n cells bytes
+IsFullOf n c cells bytes = IsRightEncoding (column_type c) cells bytes × IsFullEncoding n (column_type c) cells bytes
 
 -- there are such bytes for each column, from this place of a row on
 abbrev pub AreEncoded : (ColumnType → List Cell → List ℕ → Type 0) → ℕ → List ColumnType → List (List Cell) → List (List ℕ) → Type 0

@@ -16,4 +16,4 @@ pub use Rattle.record_search.specs.Decoding.{columns_in, piece_in, statistics_in
 pub use Rattle.record_search.specs.Named.{AgreeAsRows}
 pub use Rattle.vortex_filter.specs.Named.{AreMarked}
 pub use Rattle.record_search.specs.Refused.{RefusesRecord, fault_at_place}
-pub use Rattle.record_search.specs.Searched.{AreAllComplete, AreDescribed, AreDescribedFully, AreRowsOf, DescribeRows, DescribeRowsFully, IsFullRowIndex, IsRowIndex, ObservesRow, PushesCut, columns_of, decision_by, decision_of, has_row, is_refused, longer_under, matches_record, nulls_under, records_under, row_cells, row_under, rows_under}
+pub use Rattle.record_search.specs.Searched.{AreAllComplete, AreAllValid, AreDescribed, AreDescribedFully, AreRowsOf, DescribeRows, DescribeRowsFully, IsFullRowIndex, IsRowIndex, ObservesRow, PushesCut, columns_of, decision_by, decision_of, has_row, is_refused, longer_under, matches_record, nulls_under, records_under, row_cells, row_under, rows_under}

@@ -4,7 +4,7 @@ ghost use Rattle.std.specs.Prelude.{◌≡◌, ◌++◌, ◌<◌, ◌^◌, List,
 ghost use Rattle.std.specs.Prelude.{true};
 ghost use Rattle.std.specs.Int.{to_le_bytes, w64};
 ghost use Rattle.csv_records.specs.Records.{records_of};
-ghost use Rattle.record_search.specs.Words.{AreAllComplete, AreDescribed, AreDescribedFully, AreRowsOf, Cell};
+ghost use Rattle.record_search.specs.Words.{AreAllComplete, AreAllValid, AreDescribed, AreDescribedFully, AreRowsOf, Cell};
 ghost use Rattle.record_search.specs.Words.{DescribeRows, DescribeRowsFully, HaveTypes, IfRecordRefused, IsHeldKnown};
 ghost use Rattle.record_search.specs.Words.{ObservesRow, PushesCut, RefusesRecord};
 ghost use Rattle.record_search.specs.Words.{SomeIsFull, TellsOffset, TellsOneOf, TellsRecord};
@@ -96,6 +96,8 @@ fn observe_text(
         length (rows_under schema.now (records_of schema.now.delimiter.byte text.now))) }
     ensures complete { OnOk result (AreAllComplete 0
         (rows_under schema.now (records_of schema.now.delimiter.byte text.now)) statistics.new) }
+    ensures typed { OnOk result (HaveTypes schema.now.columns.items statistics.new) }
+    ensures valid { OnOk result (AreAllValid statistics.new) }
     ensures nulls { IfOk result (λ read. read.2 ≡
         told (sum_by (nulls_under schema.now) (records_of schema.now.delimiter.byte text.now))) }
     ensures longer { IfOk result (λ read. read.3 ≡
@@ -152,6 +154,7 @@ fn observe_line(
     ensures nulls { IfOk result (λ seen. seen.1 ≡ nulls_under schema.now line.now) }
     ensures longer { IfOk result (λ seen. seen.2 ≡ longer_under schema.now line.now) }
     ensures typed { OnOk result (HaveTypes schema.now.columns.items statistics.new) }
+    ensures valid { OnOk result (AreAllValid statistics.old → AreAllValid statistics.new) }
     ensures length { length statistics.new ≡ length statistics.old }
     ensures passed { OnOk result (is_refused schema.now line.now ≡ false) }
     ensures refused { IfErr result (IfRecordRefused (TellsRecord (RefusesRecord schema.now) place line.now)) }
@@ -178,6 +181,7 @@ fn encodings_of(
         → AreDescribed describer.now.schema.now.columns.items rows bytes.items) }
     ensures full { IfOk result (λ bytes. (rows : List (List Cell))
         → AreRowsOf describer.now.schema.now.columns.items rows → AreAllComplete 0 rows statistics.items
+        → HaveTypes describer.now.schema.now.columns.items statistics.items → AreAllValid statistics.items
         → AreDescribedFully describer.now.bound_length describer.now.schema.now.columns.items rows bytes.items) }
 {
     let mut output = Vec::new(alloc);

@@ -3,8 +3,8 @@
 //! These functions do nothing when they run. The contract of each is a law over the definitions in
 //! `specs/`, and its proof is the law's proof.
 
-ghost use Rattle.record_search.specs.Laws.{DecisionsAreRight, IndexesAreReadBack, IndexesFindAll, PiecesAreRead};
-ghost use Rattle.record_search.specs.Laws.{RowsAreRead};
+ghost use Rattle.record_search.specs.Laws.{DecisionsAreRight, DescribedIsRead, IndexesAreReadBack, IndexesFindAll};
+ghost use Rattle.record_search.specs.Laws.{PiecesAreRead, RightIndexesHavePieces, RowsAreRead};
 
 use logical_types::laws::shapes_say_words;
 use vortex_row::laws::{keys_are_apart, values_have_no_typed};
@@ -22,6 +22,18 @@ pub fn rows_are_read()
 /// records have.
 pub fn pieces_are_read()
     ensures { PiecesAreRead }
+{}
+
+/// What a describer says of the rows of records is read back: statistics of each column, right for its
+/// cells, with the nulls counted and the best bounds of so many bytes.
+pub fn described_is_read()
+    ensures { DescribedIsRead }
+{}
+
+/// An index that is right for a file can be written: the statistics of its zones are a piece for each
+/// column. So an attempt fails for want of memory alone.
+pub fn right_indexes_have_pieces()
+    ensures { RightIndexesHavePieces }
 {}
 
 /// What statistics of a zone decide of a filter is so of each of its records.

@@ -6,7 +6,9 @@ pub mod FieldLaws
 pub mod Filling
 pub mod Finding
 pub mod EncodingLaws
+pub mod Joining
 pub mod Out
+pub mod Parting
 pub mod PieceSteps
 pub mod ReadSteps
 pub mod Refusing

@@ -4,6 +4,7 @@ pub mod Examples
 pub mod Errors
 pub mod Encoding
 pub mod EncodingReading
+pub mod Laws
 pub mod Records
 pub mod Sinks
 pub mod Taking

@@ -12,6 +12,7 @@ mod encoding;
 mod errors;
 mod fields;
 mod indexing;
+pub mod laws;
 mod lines;
 mod read_at;
 mod reading;

@@ -30,7 +30,7 @@ returns-clause-right c = λ rows are all.
     (columns_done c.args.describer.now.schema.now.columns.items c.args.describer.now.bound_length at.yielded (into_iter_items at.column-iterator) c.args.statistics.items at.output.items (nothing_left _ (sym at.invariant.2 ∙ none.0)) (at.invariant.0 ∙ c.into_iter-column-iterator.ensures.into_iter_gives.0) c.requires at.invariant.1 rows are all).0
 
 pub returns-clause-full : goal.returns-clause-full
-returns-clause-full c = λ rows are all.
+returns-clause-full c = λ rows are all typed valid.
     let at = c.loop-column in
     let none = c.in-None.ensures.steps in
-    (columns_done c.args.describer.now.schema.now.columns.items c.args.describer.now.bound_length at.yielded (into_iter_items at.column-iterator) c.args.statistics.items at.output.items (nothing_left _ (sym at.invariant.2 ∙ none.0)) (at.invariant.0 ∙ c.into_iter-column-iterator.ensures.into_iter_gives.0) c.requires at.invariant.1 rows are all).1
+    (columns_done c.args.describer.now.schema.now.columns.items c.args.describer.now.bound_length at.yielded (into_iter_items at.column-iterator) c.args.statistics.items at.output.items (nothing_left _ (sym at.invariant.2 ∙ none.0)) (at.invariant.0 ∙ c.into_iter-column-iterator.ensures.into_iter_gives.0) c.requires at.invariant.1 rows are all).1 (record { typed = typed; valid = valid })

@@ -3,7 +3,7 @@ use Rattle.std.proofs.Common.{◌∙◌, None, Some, subst}
 use Rattle.record_rows.specs.Observed.{IsNotObserved, SomeIsFull}
 use Rattle.record_rows.specs.Rows.{Refuses}
 use Rattle.record_rows.specs.declared.errors.ObserveError.{ObserveError}
-use Rattle.record_search.proofs.ObserveLaws.{longer_observed, none_noted, nulls_observed, passed_observed, row_observed}
+use Rattle.record_search.proofs.ObserveLaws.{longer_observed, none_noted, nulls_observed, passed_observed, row_observed, valid_observed}
 use Rattle.record_search.proofs.RefusedLaws.{refused_right, row_refused}
 use Rattle.record_search.proofs.describing.observe_line.Goals as goal
 
@@ -34,6 +34,12 @@ returns-in-Ok-Some-clause-passed c = passed_observed c.shapes_say_words.ensures 
 
 pub returns-in-Ok-None-clause-passed : goal.returns-in-Ok-None-clause-passed
 returns-in-Ok-None-clause-passed c = passed_observed c.shapes_say_words.ensures c.args.schema.now c.args.line.now c.args.statistics.now c.observe_record.new.statistics None (rw c.in-Ok-None.field-0-is at c.in-Ok-None.ensures.observed)
+
+pub returns-in-Ok-Some-clause-valid : goal.returns-in-Ok-Some-clause-valid
+returns-in-Ok-Some-clause-valid c = valid_observed c.args.schema.now c.args.line.now c.args.statistics.now c.observe_record.new.statistics (Some c.in-Ok-Some.notes) (rw c.in-Ok-Some.field-0-is at c.in-Ok-Some.ensures.observed)
+
+pub returns-in-Ok-None-clause-valid : goal.returns-in-Ok-None-clause-valid
+returns-in-Ok-None-clause-valid c = valid_observed c.args.schema.now c.args.line.now c.args.statistics.now c.observe_record.new.statistics None (rw c.in-Ok-None.field-0-is at c.in-Ok-None.ensures.observed)
 
 pub returns-in-Err-Row-clause-refused : goal.returns-in-Err-Row-clause-refused
 returns-in-Err-Row-clause-refused c =

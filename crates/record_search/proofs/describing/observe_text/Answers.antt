@@ -5,11 +5,11 @@ use Rattle.zone_index.proofs.Refusing.{reached_more, reached_none, refused_in_te
 use Rattle.zone_index.proofs.Sifting.{first_in_records, sifted_all, sifted_more, sifted_none}
 use Rattle.record_search.specs.Refused.{RefusesRecord}
 use Rattle.record_search.specs.Searched.{is_refused, longer_under, nulls_under, row_under}
-use Rattle.record_search.proofs.ObserveLaws.{at_most_one, no_bytes, none_typed, not_full, nulls_all, nulls_more, nulls_none, seen_all, seen_more, seen_none}
+use Rattle.record_search.proofs.ObserveLaws.{at_most_one, no_bytes, none_typed, none_valid, not_full, nulls_all, nulls_more, nulls_none, seen_all, seen_more, seen_none}
 use Rattle.record_search.proofs.describing.observe_text.Goals as goal
 
 pub loop-rest-init : goal.loop-rest-init
-loop-rest-init c = (search rules, seen_none _ _ _ _ c.requires.fresh, search rules, search rules, search rules, reached_none _ _, nulls_none _ _ _, sifted_none _ _ _, nulls_none _ _ _, none_typed _ _ c.requires.fresh)
+loop-rest-init c = (search rules, seen_none _ _ _ _ c.requires.fresh, search rules, search rules, search rules, reached_none _ _, nulls_none _ _ _, sifted_none _ _ _, nulls_none _ _ _, none_typed _ _ c.requires.fresh, none_valid _ c.requires.fresh)
 
 pub observe_line-requires-clause-few : goal.observe_line-requires-clause-few
 observe_line-requires-clause-few c =
@@ -34,6 +34,7 @@ loop-rest-preserved c =
       sifted_more (is_refused s) s.delimiter.byte s.delimiter.byte c.args.text.now c.loop-rest.rest.now c.cut_record.result.0.now c.cut_record.result.1.now c.loop-rest.invariant.7 refl cut c.cut_record.ensures.parts c.in_ok-has_row.ensures.passed,
       nulls_more (longer_under s) s.delimiter.byte c.args.text.now c.loop-rest.rest.now c.cut_record.result.0.now c.cut_record.result.1.now c.loop-rest.longer c.in_ok-has_row.more_longer c.saturating_add-longer.result cut c.loop-rest.invariant.8 c.in_ok-has_row.ensures.longer c.saturating_add-longer.ensures,
       c.in_ok-has_row.ensures.typed,
+      c.in_ok-has_row.ensures.valid c.loop-rest.invariant.10,
     )
 
 pub returns-in_err-has_row-clause-refused : goal.returns-in_err-has_row-clause-refused

@@ -23,7 +23,7 @@ returns-clause-next c = λ d r columns bytes fields h.
     let word : c.word_of.result.now ≡ text = c.word_of.ensures ∙ ap (λ (l : List ℕ). cond quoted l c.in_ok-cut.cut.bare.now) c.deref.ensures.value in
     let start = rw c.in-Some.is at c.in_ok-rest.ensures.start in
     let same = rw c.in-Some.is at c.in_ok-rest.ensures.stays in
-    is_next d r columns bytes c.in-Some.rest.now c.args.self.now _ fields _ (record { text = text; is_quoted = quoted }) h start (rw same at c.in_ok-cut.ensures) (ap (λ w. w.delimiter) same) (ap (λ w. w.is_lenient) same) (ap (λ w. w.is_longer) same) (ap (λ w. w.columns) same) (ap (λ w. w.place + 1) same) (ap (λ w. w.place) same)
+    is_next d r columns bytes c.in-Some.rest.now c.args.self.now _ fields _ (record { text = text; is_quoted = quoted }) h start (rw same at c.in_ok-cut.ensures.cut) (ap (λ w. w.delimiter) same) (ap (λ w. w.is_lenient) same) (ap (λ w. w.is_longer) same) (ap (λ w. w.columns) same) (ap (λ w. w.place + 1) same) (ap (λ w. w.place) same)
     (ap (λ (w : FieldWalk). get_or w.columns.now w.place c.index-self-self.result) same ∙ get_or_default c.args.self.now.columns.now c.args.self.now.place _ _ start.0) (ap (λ (t : List ℕ). let f : Field = record { text = t; is_quoted = quoted } in f) word)
 
 pub returns-in_err-cut-clause-refused : goal.returns-in_err-cut-clause-refused

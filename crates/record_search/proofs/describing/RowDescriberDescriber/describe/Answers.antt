@@ -1,7 +1,8 @@
 -- The rows of the records are counted, and described.
 use Rattle.std.proofs.Common.{◌≡◌, ◌∙◌, [], ap, arith, drop, length, subst, sym, take_at}
 use Rattle.csv_records.specs.Records.{records_of}
-use Rattle.record_search.specs.Searched.{AreAllComplete, row_under, rows_under}
+use Rattle.record_rows.specs.Observed.{HaveTypes}
+use Rattle.record_search.specs.Searched.{AreAllComplete, AreAllValid, row_under, rows_under}
 use Rattle.record_search.proofs.DescribeLaws.{rows_counted}
 use Rattle.record_search.proofs.RowLaws.{rows_are_typed}
 use Rattle.record_search.proofs.describing.RowDescriberDescriber.describe.Goals as goal
@@ -42,8 +43,11 @@ returns-clause-full c =
     let vector = c.in_ok-columns.columns in
     let held : length slice ≡ vector.len = c.observe_text.auto.statistics ∙ c.deref_mut.ensures.len in
     let rows = rows_under s (records_of s.delimiter.byte c.args.text.now) in
+    let same = sym (take_at slice (drop (length slice) vector.items) vector.len held) in
     c.in_ok-statistics.ensures.full rows (rows_are_typed s.delimiter.byte s.reading s.columns.items (records_of s.delimiter.byte c.args.text.now))
-    (subst (AreAllComplete 0 rows) (sym (take_at slice (drop (length slice) vector.items) vector.len held)) c.in_ok-records.ensures.complete)
+    (subst (AreAllComplete 0 rows) same c.in_ok-records.ensures.complete)
+    (subst (HaveTypes s.columns.items) same c.in_ok-records.ensures.typed)
+    (subst AreAllValid same c.in_ok-records.ensures.valid)
 
 pub returns-clause-nulls : goal.returns-clause-nulls
 returns-clause-nulls c = c.in_ok-records.ensures.nulls
