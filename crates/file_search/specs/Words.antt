@@ -8,7 +8,7 @@ pub use Rattle.vortex_filter.specs.Formula.{formula}
 pub use Rattle.vortex_filter.specs.Named.{AreMarked}
 pub use Rattle.zone_index.specs.Encoding.{block_value, root_value}
 pub use Rattle.zone_index.specs.Errors.{IfRefused, IsOfRecord, TellsOffset, TellsOneOf, before_refused}
-pub use Rattle.zone_scans.specs.Found.{IsSearched}
+pub use Rattle.zone_scans.specs.Found.{IsFoundBefore, IsSearched}
 pub use Rattle.zone_scans.specs.Planning.{is_read}
 pub use Rattle.zone_scans.specs.Ranges.{AreJoined, IsFarZone, bytes_of}
 pub use Rattle.file_search.specs.Plans.{AreBlocksFor, AreFarBlocks, AreNamedBlocks, IsPlanFor, IsRead, NoBlocksFor, NoPlanFor, NotRead, NothingIn, error_of_blocks, error_of_ranges}

@@ -10,5 +10,5 @@ mod planning;
 mod sought;
 
 pub use index_bytes::{PlanError, blocks_to_read, plan_by_bytes, read_index_root};
-pub use planning::{Plan, find_rows_in, plan_search};
+pub use planning::{Plan, find_rows_in, find_rows_until_fault, plan_search};
 pub use sought::{Sought, SoughtError};

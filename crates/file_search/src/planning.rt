@@ -1,16 +1,16 @@
 //! What is to be read for a search, and what is found in the bytes that came.
 
-ghost use Rattle.std.specs.Prelude.{◌≡◌, ◌≤◌, ℕ, List, IfErr, IfOk, drop, filter, length, map};
-ghost use Rattle.file_search.specs.Words.{AreJoined, IfRefused, IsFarZone, IsOfRecord, IsSearched, RefusesRecord};
-ghost use Rattle.file_search.specs.Words.{TellsOffset, TellsOneOf, before_refused, bytes_of, formula, is_read};
-ghost use Rattle.file_search.specs.Words.{is_refused, matches_record, planned_rows, records_under};
+ghost use Rattle.std.specs.Prelude.{◌≡◌, ◌≤◌, ℕ, List, IfErr, IfNone, IfOk, IfSome, drop, filter, length, map};
+ghost use Rattle.file_search.specs.Words.{AreJoined, IfRefused, IsFarZone, IsFoundBefore, IsOfRecord, IsSearched};
+ghost use Rattle.file_search.specs.Words.{RefusesRecord, TellsOffset, TellsOneOf, before_refused, bytes_of, formula};
+ghost use Rattle.file_search.specs.Words.{is_read, is_refused, matches_record, planned_rows, records_under};
 
 use crate::sought::Sought;
 use std::alloc::Global;
 use zone_index::{Position, SearchError, Zone};
 use zone_scans::{
-    ByteRange, FoundRecord, PlannedZone, Purpose, RangeError, Searched, find_records, plan_zones,
-    ranges_to_read,
+    ByteRange, FoundRecord, PlannedZone, Purpose, RangeError, Searched, SearchedUntilFault,
+    find_records, find_records_until_fault, plan_zones, ranges_to_read,
 };
 
 /// The number of the first record of a file.
@@ -53,7 +53,8 @@ pub fn plan_search(
 ///
 /// It stops at a record that matches and for which there is no room, and else at the end of the text. Where
 /// the file goes on behind the text, `is_end` is `false`: then the last record of the text is left, since it
-/// may be cut. `Refused` with the first record that has fields that are no row, if that is met.
+/// may be cut. `Refused` with the first record that has fields that are no row, if that is met. What was found
+/// before it is written all the same: `find_rows_until_fault` says how many these are.
 pub fn find_rows_in(
     alloc: Global,
     sought: &Sought,
@@ -72,9 +73,45 @@ pub fn find_rows_in(
     ensures first { IfErr result (IfRefused (TellsOffset start.place (before_refused (is_refused sought.now.schema)
         (records_under sought.now.schema text.now)))) }
 
+    // Of those before a fault that match, each is written, in order.
+    ensures part { IfErr result (λ fault. (searched : Searched) × IsFoundBefore sought.now.schema.delimiter.byte
+        (matches_record sought.now.schema (formula sought.now.filter)) (is_refused sought.now.schema)
+        start text.now is_end found.old found.new searched fault) }
+
     // What is not said to be written stays.
     ensures rest { IfOk result (λ searched. drop searched.count found.new ≡ drop searched.count found.old) }
     ensures long { length found.new ≡ length found.old }
 {
     find_records(alloc, &sought.matcher(), start, text, is_end, found)
+}
+
+/// The same, which also says after a fault how far the text was searched.
+pub fn find_rows_until_fault(
+    alloc: Global,
+    sought: &Sought,
+    start: Position,
+    text: &[u8],
+    is_end: bool,
+    found: &mut [FoundRecord],
+) -> SearchedUntilFault
+    ensures searched { IfNone result.fault (IsSearched sought.now.schema.delimiter.byte
+        (matches_record sought.now.schema (formula sought.now.filter)) (is_refused sought.now.schema)
+        start text.now is_end found.new result.searched) }
+    ensures within { result.searched.count ≤ length found.new }
+    ensures why { IfSome result.fault IsOfRecord }
+    ensures refused { IfSome result.fault (IfRefused (TellsOneOf (RefusesRecord sought.now.schema) start.place
+        (records_under sought.now.schema text.now))) }
+    ensures first { IfSome result.fault (IfRefused (TellsOffset start.place
+        (before_refused (is_refused sought.now.schema) (records_under sought.now.schema text.now)))) }
+
+    // Of those before a fault that match, each is written, in order.
+    ensures part { IfSome result.fault (IsFoundBefore sought.now.schema.delimiter.byte
+        (matches_record sought.now.schema (formula sought.now.filter)) (is_refused sought.now.schema)
+        start text.now is_end found.old found.new result.searched) }
+
+    // What is not said to be written stays.
+    ensures rest { drop result.searched.count found.new ≡ drop result.searched.count found.old }
+    ensures long { length found.new ≡ length found.old }
+{
+    find_records_until_fault(alloc, &sought.matcher(), start, text, is_end, found)
 }

@@ -1,5 +1,5 @@
 -- Records that were judged, one after another.
-use Rattle.std.proofs.Common.{◌≡◌, ◌≢◌, ◌<◌, ◌≤◌, ◌+◌, ◌-◌, ◌^◌, ◌⊎◌, ◌==◌, ◌&&◌, inl, inr, min, ℕ, List, [], ◌∷◌, ◌++◌, Bool, true, false, Option, None, Some, refl, sym, ap, ap₂, ◌∙◌, subst, length, take, drop, drop-drop, arith, append_assoc, append-nil, add-zero}
+use Rattle.std.proofs.Common.{◌≡◌, ◌≢◌, ◌<◌, ◌≤◌, ◌+◌, ◌-◌, ◌^◌, ◌==◌, ◌&&◌, inl, inr, min, ℕ, List, [], ◌∷◌, ◌++◌, Bool, true, false, Option, Some, refl, sym, ap, ap₂, ◌∙◌, subst, length, take, drop, drop-drop, arith, append_assoc, append-nil, add-zero}
 use Rattle.std.proofs.lemmas.List.{length-append}
 use Rattle.std.proofs.lemmas.List.Folds.{concat-append}
 use Rattle.std.specs.List.{AllByRecursion, concat, onto_first}
@@ -13,11 +13,10 @@ use Rattle.csv_records.specs.Rows.{config_of}
 use Rattle.zone_index.specs.Errors.{IfRefused, TellsOffset, TellsOneOf, TellsRecord, before_refused}
 use Rattle.zone_index.specs.Sinks.{told}
 use Rattle.zone_index.specs.declared.errors.Cause.{Cause}
-use Rattle.zone_index.specs.declared.errors.Refusal.{Refusal}
 use Rattle.zone_index.specs.declared.errors.SearchError.{SearchError}
 use Rattle.zone_index.specs.declared.errors.SearchError.TheVariants as errors
 use Rattle.zone_index.specs.declared.zones.Position.{Position}
-use Rattle.zone_scans.specs.Found.{IsHitNext, IsJudged, IsSearched, IsStop, found_at, found_of, position_after}
+use Rattle.zone_scans.specs.Found.{IsJudged, IsRefusedNext, IsSearched, found_at, found_of, position_after}
 use Rattle.zone_scans.specs.declared.finding.FoundRecord.{FoundRecord}
 use Rattle.zone_scans.specs.declared.finding.Searched.{Searched}
 
@@ -186,6 +185,17 @@ first_of_text C d e matches R start text is_end rest line after into count here 
 first_of_text C d e matches R start text is_end rest line after into count here errors.TooFar h by cut t so = tt
 first_of_text C d e matches R start text is_end rest line after into count here errors.Write h by cut t so = tt
 first_of_text C d e matches R start text is_end rest line after into count here errors.Memory h by cut t so = tt
+
+pub refused_next : (C : List ℕ → Cause → Type 0) (d e : ℕ) (R : List ℕ → Bool) (is_end : Bool) (rest line after : List ℕ) (here : Position) (f : SearchError) → e ≡ d → records_of e rest ≡ line ∷ records_of e after → rest ≡ line ++ after → (is_end ≡ false → after ≢ [])
+    → IfRefused (TellsRecord C here.place line) f → IfRefused (λ _. R line ≡ true) f → IfRefused (IsRefusedNext d R is_end rest here) f
+refused_next C d e R is_end rest line after here (errors.Refused r) by cut parts goes_on t so =
+    let own : records_of d rest ≡ line ∷ records_of d after = subst (λ (n : ℕ). records_of n rest ≡ line ∷ records_of n after) by cut in
+    record { line = line; after = after; is = own; certain = λ unended more. cut_stays d line after rest more own parts (goes_on unended); refused = so; place = t.begins }
+refused_next C d e R is_end rest line after here errors.Read by cut parts goes_on t so = tt
+refused_next C d e R is_end rest line after here errors.CutShort by cut parts goes_on t so = tt
+refused_next C d e R is_end rest line after here errors.TooFar by cut parts goes_on t so = tt
+refused_next C d e R is_end rest line after here errors.Write by cut parts goes_on t so = tt
+refused_next C d e R is_end rest line after here errors.Memory by cut parts goes_on t so = tt
 
 -- ---- what was not written
 

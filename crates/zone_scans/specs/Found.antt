@@ -1,8 +1,11 @@
 -- Records that match, with where they stand.
-use Rattle.std.specs.Prelude.{◌≡◌, ◌⊎◌, ℕ, ◌+◌, List, [], ◌∷◌, ◌++◌, Bool, false, length, take, true, if◌then◌else◌}
+use Rattle.std.specs.Prelude.{◌≡◌, ◌⊎◌, ℕ, ◌+◌, List, [], ◌∷◌, ◌++◌, Bool, false, drop, length, take, true, if◌then◌else◌, ◌≤◌}
 use Rattle.std.specs.List.{AllByRecursion, concat}
 use Rattle.csv_records.specs.Records.{records_of}
+use Rattle.zone_index.specs.Errors.{IfRefused}
 use Rattle.zone_index.specs.Sinks.{told}
+use Rattle.zone_index.specs.declared.errors.Refusal.{Refusal}
+use Rattle.zone_index.specs.declared.errors.SearchError.{SearchError}
 use Rattle.zone_index.specs.declared.zones.Position.{Position}
 use Rattle.zone_scans.specs.declared.finding.FoundRecord.{FoundRecord}
 use Rattle.zone_scans.specs.declared.finding.Searched.{Searched}
@@ -49,3 +52,22 @@ pub record IsSearched (delimiter : ℕ) (matches is_refused : List ℕ → Bool)
   pub rest : List ℕ
   pub judged : IsJudged delimiter matches is_refused start text is_end rest into s.count s.next
   pub stop : IsStop delimiter matches is_end rest s.count (length into)
+
+-- the next record of a text is refused, and the refusal tells where it begins. Where the file goes on behind the text, it is the
+-- next one whatever follows
+pub record IsRefusedNext (delimiter : ℕ) (is_refused : List ℕ → Bool) (is_end : Bool) (rest : List ℕ) (next : Position) (refusal : Refusal) : Type 0 where
+  pub line : List ℕ
+  pub after : List ℕ
+  pub is : records_of delimiter rest ≡ line ∷ records_of delimiter after
+  pub certain : is_end ≡ false → (more : List ℕ) → records_of delimiter (rest ++ more) ≡ line ∷ records_of delimiter (after ++ more)
+  pub refused : is_refused line ≡ true
+  pub place : refusal.place ≡ next.place
+
+-- so many were found of the records that were judged before a fault, and nothing else was written. All records were judged that
+-- come before one that is refused
+pub record IsFoundBefore (delimiter : ℕ) (matches is_refused : List ℕ → Bool) (start : Position) (text : List ℕ) (is_end : Bool) (old new : List FoundRecord) (s : Searched) (fault : SearchError) : Type 0 where
+  pub rest : List ℕ
+  pub judged : IsJudged delimiter matches is_refused start text is_end rest new s.count s.next
+  pub refused : IfRefused (IsRefusedNext delimiter is_refused is_end rest s.next) fault
+  pub within : s.count ≤ length new
+  pub kept : drop s.count new ≡ drop s.count old

@@ -1,12 +1,12 @@
 //! The records of a text that match, with where they stand.
 
-ghost use Rattle.std.specs.Prelude.{◌≡◌, ◌≢◌, ◌<◌, ◌≤◌, ◌+◌, ◌++◌, ◌∷◌, [], IfErr, IfOk, OnOk, drop, false, length};
-ghost use Rattle.std.specs.Prelude.{if◌then◌else◌, min, take, true};
+ghost use Rattle.std.specs.Prelude.{◌≡◌, ◌≢◌, ◌<◌, ◌≤◌, ◌+◌, ◌++◌, ◌∷◌, [], IfErr, IfNone, IfOk, IfSome, OnOk};
+ghost use Rattle.std.specs.Prelude.{drop, false, if◌then◌else◌, length, min, take, true};
 ghost use Rattle.csv_records.specs.Records.{records_of};
 ghost use Rattle.zone_index.specs.Errors.{IfRefused, IsOfRecord, TellsOffset, TellsOneOf, TellsRecord};
 ghost use Rattle.zone_index.specs.Errors.{before_refused, fault_at};
 ghost use Rattle.zone_index.specs.Sinks.{told};
-ghost use Rattle.zone_scans.specs.Found.{IsSearched, found_at, position_after};
+ghost use Rattle.zone_scans.specs.Found.{IsFoundBefore, IsSearched, found_at, position_after};
 
 use csv_records::cut_record;
 use std::alloc::Global;
@@ -33,12 +33,22 @@ pub struct Searched {
     pub next: Position,
 }
 
+/// How far a text was searched, and the fault that ended it, if there was one.
+#[derive(Debug, Drop)]
+pub struct SearchedUntilFault {
+    /// How far. A record that is refused is the first one that was not judged.
+    pub searched: Searched,
+    /// The fault.
+    pub fault: Option<SearchError>,
+}
+
 /// Writes where the records of a text stand that match, as many as there is room for. The text stands at
 /// `start` in the file, and its first record has the number there.
 ///
 /// It stops at a record that matches and for which there is no room, and else at the end of the text. Where
 /// the file goes on behind the text, `is_end` is `false`: then the last record of the text is left, since it
-/// may be cut. `Refused` with the first record that is refused, if that is met.
+/// may be cut. `Refused` with the first record that is refused, if that is met. What was found before it is
+/// written all the same: `find_records_until_fault` says how many these are.
 pub fn find_records<M: Matcher>(
     alloc: Global,
     matcher: &M,
@@ -56,8 +66,47 @@ pub fn find_records<M: Matcher>(
     ensures first { IfErr result (IfRefused (TellsOffset start.place (before_refused (M.is_refused matcher.now)
         (records_of (M.delimiter matcher.now) text.now)))) }
 
+    // Of those before a fault that match, each is written, in order.
+    ensures part { IfErr result (λ fault. (searched : Searched) × IsFoundBefore (M.delimiter matcher.now)
+        (M.matches matcher.now) (M.is_refused matcher.now) start text.now is_end found.old found.new searched fault) }
+
     // What is not said to be written stays.
     ensures rest { IfOk result (λ searched. drop searched.count found.new ≡ drop searched.count found.old) }
+    ensures long { length found.new ≡ length found.old }
+{
+    let SearchedUntilFault { searched, fault } = find_records_until_fault(
+        alloc, matcher, start, text, is_end, found,
+    );
+    match fault {
+        None => Ok(searched),
+        Some(fault) => Err(fault),
+    }
+}
+
+/// The same, which also says after a fault how far the text was searched.
+pub fn find_records_until_fault<M: Matcher>(
+    alloc: Global,
+    matcher: &M,
+    start: Position,
+    text: &[u8],
+    is_end: bool,
+    found: &mut [FoundRecord],
+) -> SearchedUntilFault
+    ensures searched { IfNone result.fault (IsSearched (M.delimiter matcher.now) (M.matches matcher.now)
+        (M.is_refused matcher.now) start text.now is_end found.new result.searched) }
+    ensures within { result.searched.count ≤ length found.new }
+    ensures why { IfSome result.fault IsOfRecord }
+    ensures refused { IfSome result.fault (IfRefused (TellsOneOf (M.Refuses matcher.now) start.place
+        (records_of (M.delimiter matcher.now) text.now))) }
+    ensures first { IfSome result.fault (IfRefused (TellsOffset start.place
+        (before_refused (M.is_refused matcher.now) (records_of (M.delimiter matcher.now) text.now)))) }
+
+    // Of those before a fault that match, each is written, in order.
+    ensures part { IfSome result.fault (IsFoundBefore (M.delimiter matcher.now) (M.matches matcher.now)
+        (M.is_refused matcher.now) start text.now is_end found.old found.new result.searched) }
+
+    // What is not said to be written stays.
+    ensures rest { drop result.searched.count found.new ≡ drop result.searched.count found.old }
     ensures long { length found.new ≡ length found.old }
 {
     let mut scratch = matcher.scratch(alloc);
@@ -67,17 +116,36 @@ pub fn find_records<M: Matcher>(
     while !rest.is_empty() {
         let (line, after) = cut_record(matcher.delimiter_byte(), rest);
         if is_cut(is_end, after) {
-            return Ok(Searched { count, next });
+            return ended(count, next);
         }
-        let is_hit = is_match_at(alloc, matcher, next.place, line, &mut scratch)?;
-        if lacks_room(is_hit, count, found) {
-            return Ok(Searched { count, next });
+        match is_match_at(alloc, matcher, next.place, line, &mut scratch) {
+            Ok(is_hit) => {
+                if lacks_room(is_hit, count, found) {
+                    return ended(count, next);
+                }
+                count = put_record(is_hit, next, line, count, found);
+                next = position_after(next, line);
+                rest = after;
+            }
+            Err(fault) => {
+                return SearchedUntilFault {
+                    searched: Searched { count, next },
+                    fault: Some(fault),
+                };
+            }
         }
-        count = put_record(is_hit, next, line, count, found);
-        next = position_after(next, line);
-        rest = after;
     }
-    Ok(Searched { count, next })
+    ended(count, next)
+}
+
+/// So many records were found, and here the first one stands that was not judged, with no fault.
+fn ended(count: usize, next: Position) -> SearchedUntilFault
+    ensures { result ≡ record { searched = record { count = count; next = next }; fault = None } }
+{
+    SearchedUntilFault {
+        searched: Searched { count, next },
+        fault: None,
+    }
 }
 
 /// Whether a record may be cut behind which this follows.

@@ -12,7 +12,9 @@ mod ranges;
 mod roots;
 
 pub use blocks::{block_ranges, read_wanted};
-pub use finding::{FoundRecord, Searched, find_records};
+pub use finding::{
+    FoundRecord, Searched, SearchedUntilFault, find_records, find_records_until_fault,
+};
 pub use planning::{PlannedZone, Purpose, plan_zones};
 pub use ranges::{ByteRange, RangeError, ranges_to_read};
 pub use roots::{HEAD_LENGTH, root_length};

@@ -1,7 +1,7 @@
 -- The records so far were judged.
-use Rattle.std.proofs.Common.{◌≡◌, ◌<◌, ◌≤◌, ◌^◌, drop, length}
+use Rattle.std.proofs.Common.{◌≡◌, ◌≤◌, drop, length}
 use Rattle.zone_scans.specs.Found.{IsJudged}
-use Rattle.zone_scans.proofs.finding.find_records.Given as goal
+use Rattle.zone_scans.proofs.finding.find_records_until_fault.Given as goal
 
 abbrev pub invariant-loop-rest : goal.invariant-loop-rest
 invariant-loop-rest g l = record {
