@@ -7,7 +7,7 @@ use Rattle.vortex_dtype.specs.TypeTree.{TypeTree}
 use Rattle.vortex_filter.specs.Formula.{Formula, constant, formula}
 use Rattle.vortex_filter.specs.declared.truth.Truth.TheVariants.{True}
 use Rattle.vortex_row.proofs.ReaderSteps.{take-then}
-use Rattle.filter_encoding.specs.Answers.{HasNoValue, IsFirstWrong, IsEncoding, ReadsAs}
+use Rattle.filter_encoding.specs.Answers.{HasNoValue, HasVersion, IsFirstWrong, IsEncoding, ReadsAs}
 use Rattle.filter_encoding.specs.Encoding.{EncodingsAreApart, HasEncoding, HasValues, IsFormed, IsPlain, IsVersion, Prepared, encoding_in, has_extended, is_extension, node_bytes, prepared, type_bytes, version_of}
 use Rattle.filter_encoding.specs.Lists.{AreListed, listed}
 use Rattle.filter_encoding.specs.Steps.{IsNoValueOf, IsNode, IsNodeEncoding, ReadsEncoding}
@@ -15,7 +15,7 @@ use Rattle.filter_encoding.specs.declared.error.FilterEncodingError.{FilterEncod
 use Rattle.filter_encoding.specs.declared.error.FilterEncodingError.TheVariants.{BadBytes, NotAValue, OutOfMemory}
 use Rattle.filter_encoding.specs.declared.prepared.PreparedFilter.{PreparedFilter}
 use Rattle.filter_encoding.specs.declared.reader.FilterDecodeError.{FilterDecodeError}
-use Rattle.filter_encoding.specs.declared.reader.FilterDecodeError.TheVariants.{Bad}
+use Rattle.filter_encoding.specs.declared.reader.FilterDecodeError.TheVariants.{Bad, NoMemory}
 use Rattle.filter_encoding.specs.Strings.{BeginAlike, HasRead, IsEncodingOf, IsStuck, Then}
 use Rattle.filter_encoding.proofs.HeadLaws.{some_node}
 use Rattle.filter_encoding.proofs.ListLaws.{listed_apart}
@@ -106,6 +106,9 @@ version_stuck n old now same other = subst (IsStuck (IsEncoding n) old) (sym sam
 abbrev pub Begun : List ℕ → List ℕ → Type 0
 Begun old now = (version : ℕ) × IsVersion version × (old ≡ version ∷ now)
 
+pub has_version : (old now : List ℕ) → Begun old now → HasVersion old
+has_version old now b = (b.0, now, b.1, b.2)
+
 pub columns_stuck : (n : ℕ) (old mid now : List ℕ) → Begun old mid → IsStuck Columns mid now → IsStuck (IsEncoding n) old now
 columns_stuck n old mid now b stuck = first_stuck (b.0 ∷ []) (IsEncoding n) Columns (IsNodeEncoding n) old mid now (encoding_goes_on n b.0 b.1) (some_node n) b.2 stuck
 
@@ -131,6 +134,11 @@ encoding_read n ts f old mid here now b h g = (
 pub refused_on : (n : ℕ) (r : Result PreparedFilter FilterDecodeError) (e : FilterDecodeError) (old now : List ℕ) → IsErr r × IsErrAnd r (λ f. f ≡ e) → (e ≡ Bad → IsStuck (IsEncoding n) old now) → ReadsEncoding n r old now
 refused_on n (Ok x) e old now h g = absurd (true≢false (sym h.0))
 refused_on n (Err f) e old now h g = λ bad. g (sym h.1 ∙ bad)
+
+-- bytes that cannot go on so are no want of memory
+pub not_memory : (r : Result PreparedFilter FilterDecodeError) (e : FilterDecodeError) (old : List ℕ) → IsErr r × IsErrAnd r (λ f. f ≡ e) → e ≡ Bad → r ≡ Err NoMemory → HasVersion old
+not_memory (Ok x) e old h bad is = absurd cc
+not_memory (Err f) e old h bad is = let same = h.1 in absurd cc
 
 -- ---- the first wrong byte
 
@@ -265,6 +273,12 @@ module _ (n : ℕ) (p : PreparedFilter) (bytes now : List ℕ) (left taken : ℕ
   ok_refused (Ok x) a = tt
   ok_refused (Err d) (inl a) = inr (inl (taken, a.0))
   ok_refused (Err d) (inr a) = let t = told (prepared p) d a.1 in inr (inr (t.offset, t.is))
+
+  -- memory is asked for only before
+  pub ok_memory : (r : Result PreparedFilter FilterEncodingError) → Answers r → r ≡ Err OutOfMemory → HasVersion bytes
+  ok_memory (Ok x) a e = absurd cc
+  ok_memory (Err d) (inl a) e = let f = a.0 in absurd cc
+  ok_memory (Err d) (inr a) e = let f = (told (prepared p) d a.1).is in absurd cc
 
 -- where the bytes are stuck
 pub bad_whole : (n : ℕ) (bytes : List ℕ) (place : ℕ) → IsFirstWrong (IsEncoding n) bytes place → (version : ℕ) (q : Prepared) → IsVersion version → HasEncoding n q → bytes ≡ encoding_in version q → BadBytes place ≡ OutOfMemory

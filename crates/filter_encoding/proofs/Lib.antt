@@ -1,6 +1,7 @@
 pub mod EncodingLaws
 pub mod ExtensionLaws
 pub mod HeadLaws
+pub mod HeightLaws
 pub mod ListLaws
 pub mod LiteralLaws
 pub mod NoValueLaws

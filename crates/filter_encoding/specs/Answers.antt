@@ -1,5 +1,5 @@
 -- What reading an encoding answers: the prepared filter that was written, or the first byte that no encoding has there.
-use Rattle.std.specs.Prelude.{◌≡◌, ℕ, suc, ◌+◌, ◌<◌, ◌≤◌, List, length, take, Result, MatchResult}
+use Rattle.std.specs.Prelude.{◌≡◌, ℕ, suc, ◌+◌, ◌<◌, ◌≤◌, List, ◌∷◌, length, take, Result, MatchResult}
 use Rattle.statistics_bytes.specs.EncodingAnswers.{MayGoOn}
 use Rattle.filter_encoding.specs.Encoding.{Behind, FirstIn, IsFormed, IsVersion, Prepared, encoding_in, prepared, type_bytes}
 use Rattle.filter_encoding.specs.Lists.{listed}
@@ -14,6 +14,10 @@ pub record IsEncoding (n : ℕ) (bs : List ℕ) : Type 0 where
   pub is_version : IsVersion version
   pub is_one : IsFormed n value
   pub is : bs ≡ encoding_in version value
+
+-- the first byte is a version
+abbrev pub HasVersion : List ℕ → Type 0
+HasVersion bs = (version : ℕ) × (rest : List ℕ) × IsVersion version × (bs ≡ version ∷ rest)
 
 -- the bytes are the encoding of a prepared filter, and the key of the first literal that is no value of its logical type
 -- has this offset

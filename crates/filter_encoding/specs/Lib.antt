@@ -1,6 +1,7 @@
 pub mod Answers
 pub mod Examples
 pub mod Encoding
+pub mod Laws
 pub mod Lists
 pub mod Patterns
 pub mod Steps

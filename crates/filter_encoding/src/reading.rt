@@ -2,11 +2,12 @@
 
 ghost use Rattle.std.specs.Prelude.{◌≡◌, ◌≢◌, ◌∷◌, ◌⊎◌, ◌<◌, ◌≤◌, ◌^◌, ℕ, List, Err, IfErr, IfOk, MatchOption};
 ghost use Rattle.std.specs.Prelude.{MatchResult};
-ghost use Rattle.filter_encoding.specs.Words.{AreValid, BadBytes, HasEncoding, HasNoValue, HasValues, IsEncoding};
-ghost use Rattle.filter_encoding.specs.Words.{IsFirstWrong, IsNoValueOf, IsNode, IsVersion, NotAValue};
+ghost use Rattle.filter_encoding.specs.Words.{AreValid, BadBytes, HasEncoding, HasNoValue, HasValues, HasVersion};
+ghost use Rattle.filter_encoding.specs.Words.{IsEncoding, IsFirstWrong, IsNoValueOf, IsNode, IsVersion, NotAValue};
 ghost use Rattle.filter_encoding.specs.Words.{OutOfMemory, Prepared, Reads, ReadsAs, ReadsBehind, ReadsBoth};
 ghost use Rattle.filter_encoding.specs.Words.{ReadsEncoding, encoding_in, formula, left, literals_of, node_bytes};
 ghost use Rattle.filter_encoding.specs.Words.{operator_byte, prepared};
+ghost use Rattle.filter_encoding.specs.declared.reader.FilterDecodeError.TheVariants.{Bad, NoMemory};
 
 use crate::error::FilterEncodingError;
 use crate::heads::{Head, read_head};
@@ -27,8 +28,9 @@ use vortex_filter::{CompareOperator, Filter, both, either, negation};
 /// `BadBytes` if the bytes are not, whole, the encoding of such a filter: its offset is that of the
 /// first byte that no such encoding has there, or of the end if they end too early. Else `NotAValue`
 /// if a literal is no value of its logical type: its offset is that of the first such value.
-/// `OutOfMemory` may come in place of each answer. Each literal of the filter is valid for its type,
-/// and a value of its logical type.
+/// `OutOfMemory` may come in place of each answer, but only if the first byte is a version: that is
+/// tested before any memory is asked for. Each literal of the filter is valid for its type, and a value
+/// of its logical type.
 pub fn read_filter(
     alloc: Global,
     depth: usize,
@@ -42,6 +44,7 @@ pub fn read_filter(
     ensures bad { (place : ℕ) → result ≡ Err (BadBytes place)
         → IsFirstWrong (IsEncoding depth) bytes.now place }
     ensures no_value { (place : ℕ) → result ≡ Err (NotAValue place) → HasNoValue depth bytes.now place }
+    ensures memory { result ≡ Err OutOfMemory → HasVersion bytes.now }
     ensures refused { IfErr result (λ e. (e ≡ OutOfMemory)
         ⊎ (((place : ℕ) × (e ≡ BadBytes place)) ⊎ ((place : ℕ) × (e ≡ NotAValue place)))) }
 {
@@ -101,6 +104,7 @@ fn read_encoding(
 ) -> Result<PreparedFilter, FilterDecodeError>
     ensures read { ReadsEncoding depth result (left reader.old) (left reader.new) }
     ensures valid { IfOk result (λ p. AreValid (literals_of p.filter)) }
+    ensures memory { result ≡ Err NoMemory → HasVersion (left reader.old) }
 {
     read_version(reader)?;
     let columns = read_types(alloc, reader)?;
@@ -112,7 +116,7 @@ fn read_encoding(
 fn read_version(reader: &mut Reader<'_>) -> Result<(), FilterDecodeError>
     ensures { MatchResult result
         (λ _. (version : ℕ) × IsVersion version × (left reader.old ≡ version ∷ left reader.new))
-        (λ e. (left reader.new ≡ left reader.old)
+        (λ e. (e ≡ Bad) × (left reader.new ≡ left reader.old)
         × ((version : ℕ) (bs : List ℕ) → IsVersion version → left reader.old ≢ version ∷ bs)) }
 {
     if reader.takes(PLAIN) {

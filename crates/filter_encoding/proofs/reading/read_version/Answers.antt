@@ -16,6 +16,7 @@ neither old mid same one two version bs (inr e) f = two bs (same ∙ f ∙ ap (�
 
 pub returns : goal.returns
 returns c = (
+  refl,
   c.takes-2.ensures.unchanged c.if-takes-2.false ∙ c.takes.ensures.unchanged c.if-takes.false,
   neither _ _ (c.takes.ensures.unchanged c.if-takes.false) (c.takes.ensures.other c.if-takes.false) (c.takes-2.ensures.other c.if-takes-2.false),
 )
