@@ -20,17 +20,9 @@ use Rattle.filter_sql.specs.declared.token.Keyword.TheVariants as keywords
 use Rattle.filter_sql.specs.ColumnNames.{ColumnTree}
 use Rattle.filter_sql.specs.Grammar.{IsCondition, IsFilter, IsPredicate, IsTest, and_filter, bare_test, between_literals, compares, group, in_literals, in_nothing, ilike_pattern, is_not_null, is_null, like_pattern, not_filter, not_test, on_column, one_conjunction, one_operand, or_filter, predicate, prefix_call, says_false, says_null, says_true}
 use Rattle.filter_sql.specs.Literals.{Condition, begun, formula_in, like_in, like_test, missing, positions_of, prefix_asked, prefix_or}
+use Rattle.filter_sql.specs.TextLaws.{TextsNestSo, height}
 use Rattle.filter_sql.specs.Tokens.{TokenTree, closing, keyword_token}
 use Rattle.filter_sql.proofs.ConditionSteps.{bind_some, guard_some, map_some}
-
--- ---- how deep a formula nests
-
--- how many connectives nest in a formula
-abbrev pub height : Formula → ℕ
-height (both f g) = suc (max (height f) (height g))
-height (either f g) = suc (max (height f) (height g))
-height (negation f) = suc (height f)
-height _ = 0
 
 -- ---- the height of a filter of the grammar
 
@@ -214,3 +206,7 @@ filter-low (or_filter {n} {ts} {us} d e) =
 -- the filter that all tokens of a text are
 pub whole-low : {columns : List ColumnTree} {n : ℕ} {ts : List TokenTree} {f : Formula} → IsFilter columns levels.Or n ts f → IsLow (2 * n + 5) ts f
 whole-low d = filter-low d
+
+-- the filter that a text is
+pub texts_low : TextsNestSo
+texts_low n columns sql f h = (whole-low h.means).high
