@@ -412,7 +412,8 @@ uint32_t doqallin_prepare_filter(const uint8_t *words, size_t words_length, cons
  * BAD_OFFSETS: an offset of the piece fault->column is below the one before it, or past the end of the statistics.
  * BAD_BYTES: the piece fault->column is no encoding of statistics of its column's kind; fault->place is as above, in
  * the piece. Of the last two statuses the first piece decides.
- * NO_MEMORY: may come in place of each other status. Memory is asked for the filter, and for one zone at a time. */
+ * NO_MEMORY: may come in place of each other status, but only if the filter's first byte is 1 or 2. Memory is asked for
+ * the filter, and for one zone at a time. */
 uint32_t doqallin_filter_outcomes(const uint8_t *filter, size_t filter_length, const uint8_t *statistics,
                                   size_t statistics_length, const uint64_t *offsets, size_t offsets_length, size_t depth,
                                   uint8_t *outcomes, size_t outcomes_length, struct doqallin_fault *fault);
@@ -434,8 +435,8 @@ uint32_t doqallin_filter_outcomes(const uint8_t *filter, size_t filter_length, c
  * UNKNOWN_KIND: fault->column is of another kind than the filter's, and fault->place is 1.
  * WRONG_LENGTH: fault->column has another number of rows than row_count. Of the last three the first column decides,
  * among those that the filter names.
- * NO_MEMORY: may come in place of each other status. Memory is asked for the filter and for each column, and for no
- * value. */
+ * NO_MEMORY: may come in place of each other status, but only if the filter's first byte is 1 or 2. Memory is asked for
+ * the filter and for each column, and for no value. */
 uint32_t doqallin_filter_mask(const uint8_t *filter, size_t filter_length, const struct doqallin_column *columns,
                               size_t column_count, size_t row_count, size_t depth, uint8_t *buffer, size_t buffer_length,
                               struct doqallin_fault *fault);

@@ -6,7 +6,7 @@ use Rattle.column_filters.specs.Tables.{AreColumnsOf, IsMaskError, cells_of_colu
 use Rattle.column_filters.specs.Zones.{AreOutcomes, RefusesZones}
 use Rattle.column_filters.specs.declared.errors.MaskError.{MaskError}
 use Rattle.column_filters.specs.declared.errors.ZoneError.{ZoneError}
-use Rattle.filter_encoding.specs.Answers.{HasNoValue, IsFirstWrong, IsEncoding}
+use Rattle.filter_encoding.specs.Answers.{HasNoValue, HasVersion, IsFirstWrong, IsEncoding}
 use Rattle.filter_encoding.specs.Encoding.{EncodingsAreApart, HasEncoding, HasValues, IsFormed, IsLiteral, IsVersion, Nests, Prepared, encoding_in, prepared, version_of}
 use Rattle.filter_encoding.proofs.EncodingLaws.{written_version}
 use Rattle.filter_encoding.proofs.NoValueLaws.{none_in}
@@ -25,10 +25,10 @@ use Rattle.vortex_c.specs.declared.filters.ZonesError.TheVariants as zones
 
 -- why bytes are not read
 pub unread : (n : ℕ) (bytes : List ℕ) (e : FilterEncodingError) → (e ≡ OutOfMemory) ⊎ (((place : ℕ) × (e ≡ BadBytes place)) ⊎ ((place : ℕ) × (e ≡ NotAValue place))) → ((place : ℕ) → e ≡ BadBytes place → IsFirstWrong (IsEncoding n) bytes place)
-    → ((place : ℕ) → e ≡ NotAValue place → HasNoValue n bytes place) → IsUnread n bytes e
-unread n bytes e (inl none) bad no_value = subst (IsUnread n bytes) (sym none) tt
-unread n bytes e (inr (inl wrong)) bad no_value = subst (IsUnread n bytes) (sym wrong.1) (bad wrong.0 wrong.1)
-unread n bytes e (inr (inr wrong)) bad no_value = subst (IsUnread n bytes) (sym wrong.1) (no_value wrong.0 wrong.1)
+    → ((place : ℕ) → e ≡ NotAValue place → HasNoValue n bytes place) → (e ≡ OutOfMemory → HasVersion bytes) → IsUnread n bytes e
+unread n bytes e (inl none) bad no_value memory = subst (IsUnread n bytes) (sym none) (memory none)
+unread n bytes e (inr (inl wrong)) bad no_value memory = subst (IsUnread n bytes) (sym wrong.1) (bad wrong.0 wrong.1)
+unread n bytes e (inr (inr wrong)) bad no_value memory = subst (IsUnread n bytes) (sym wrong.1) (no_value wrong.0 wrong.1)
 
 pub encoding-of : (n : ℕ) (bytes : List ℕ) (q : PreparedFilter) → (version : ℕ) × IsVersion version × HasEncoding n (prepared q) × (bytes ≡ encoding_in version (prepared q)) → IsEncodingOf n bytes (prepared q)
 encoding-of n bytes q h = record { version = h.0; is_version = h.1; has_encoding = h.2; is = h.3 }

@@ -1,5 +1,5 @@
 -- How deep the encoding of a filter nests: a filter that words are has one, at the depth that goes with theirs.
-use Rattle.std.proofs.Common.{◌≡◌, ◌∙◌, ℕ, zero, suc, ◌^◌, ◌<◌, ◌≤◌, Bool, true, false, List, [], ◌∷◌, ◌++◌, length, Option, Some, None, IsUtf8, chars, encode_utf8_all, arith, ap, refl, subst, sym, length-append, length-drop}
+use Rattle.std.proofs.Common.{◌≡◌, ◌∙◌, ℕ, suc, max, ◌^◌, ◌<◌, ◌≤◌, Bool, true, false, List, [], ◌∷◌, ◌++◌, length, Option, Some, None, IsUtf8, chars, encode_utf8_all, arith, ap, ap₂, refl, subst, sym, length-append, length-drop}
 use Rattle.std.specs.Char.{is_ascii_whitespace}
 use Rattle.std.specs.List.{AllByRecursion, prefix_len}
 use Rattle.std.specs.Option.{option_map}
@@ -17,22 +17,25 @@ use Rattle.vortex_dtype.specs.TypeTree.{TypeTree, utf8_type}
 use Rattle.vortex_cells.specs.Cells.{Cell}
 use Rattle.vortex_filter.specs.declared.operator.CompareOperator.{CompareOperator}
 use Rattle.vortex_filter.specs.declared.operator.CompareOperator.TheVariants.{Eq, NotEq, Gt, Gte, Lt, Lte}
-use Rattle.vortex_filter.specs.Formula.{both, comparison, constant, either, Formula, membership, negation, null_test, pattern_test, prefix_test, range}
+use Rattle.vortex_filter.specs.Formula.{Formula, both, comparison, constant, either, membership, negation, null_test, pattern_test, prefix_test, range}
 use Rattle.vortex_filter.specs.CheckSteps.{holds_strings}
 use Rattle.vortex_filter.specs.Literals.{LiteralTree, position_of, text_cell, text_literal}
 use Rattle.vortex_filter.specs.Operators.{holds}
 use Rattle.vortex_filter.specs.Positions.{cells_of, comparison_above, comparison_of, exactly, for_values, just_above, lacking, member_among, member_of, PositionTree, prefix_of, range_of}
-use Rattle.filter_encoding.specs.Encoding.{CanBeWritten, IsPlain, IsPlainCell, Nests}
+use Rattle.filter_encoding.specs.Encoding.{CanBeWritten, IsPlain, IsPlainCell}
+use Rattle.filter_encoding.specs.Laws.{height as encoded_height}
 use Rattle.filter_encoding.specs.Lists.{AreListed, Fits}
-use Rattle.filter_encoding.specs.Patterns.{IsCase, IsPart}
+use Rattle.filter_encoding.specs.Patterns.{IsPart}
 use Rattle.filter_sql.specs.ColumnNames.{column_named, column_there, ColumnTree, named_place, or_numbered, typed_place}
 use Rattle.filter_sql.specs.Grammar.{and_filter, AreLiterals, bare_test, between_literals, compares, group, in_literals, ilike_pattern, in_nothing, is_not_null, is_null, IsCondition, IsFilter, IsPredicate, IsTest, like_pattern, more_literals, not_filter, not_test, on_column, one_conjunction, one_literal, one_operand, or_filter, predicate, prefix_call, says_false, says_null, says_true}
 use Rattle.filter_sql.specs.Literals.{alike, begun, Condition, formula_in, like_test, missing, positions_of, prefix_asked, prefix_or}
 use Rattle.filter_sql.specs.Parsing.{IsSqlWithin, tokens_in, types_of}
+use Rattle.filter_sql.specs.TextLaws.{height}
 use Rattle.filter_sql.specs.Texts.{AreItemsOf, Item, Leads, trimmed}
 use Rattle.filter_sql.specs.Tokens.{closing, comma, TokenTree}
 use Rattle.filter_sql.proofs.ConditionSteps.{bind_some, guard_some, map_some, some_members, stand_parts}
-use Rattle.filter_sql.proofs.NestLaws.{height, whole-low}
+use Rattle.filter_encoding.proofs.HeightLaws.{HasForm, nests}
+use Rattle.filter_sql.proofs.NestLaws.{whole-low}
 use Rattle.filter_sql.proofs.Runs.{front_again}
 use Rattle.filter_sql.proofs.Taken.{token_shorter}
 use Rattle.vortex_filter.proofs.LiteralTypes.{TypesSay, WordsSay}
@@ -42,36 +45,20 @@ use Rattle.vortex_c.proofs.TokenTexts.{IsStringIn, parts-read, strings-read}
 use Rattle.vortex_c.specs.FilterSql.{encoding_depth, kind_of_named, prepared_of, tree_of_kind, trees_of_kinds, types_of_kinds}
 use Rattle.vortex_c.specs.declared.sql.NamedKind.{NamedKind}
 
--- ---- a formula that has bytes
+-- ---- how deep a formula nests
 
--- 8 bytes can hold each place and each number of literals or of a pattern's parts; the literals are of types that have bytes,
--- and the characters of patterns are Unicode scalar values
-abbrev HasForm : Formula → Type 0
-HasForm (constant t) = Unit {0}
-HasForm (comparison k op x) = Fits k × IsPlainCell x
-HasForm (null_test k) = Fits k
-HasForm (membership k xs) = Fits k × AreListed IsPlainCell xs
-HasForm (range k x y) = Fits k × (IsPlainCell x × IsPlainCell y)
-HasForm (prefix_test k x) = Fits k × IsPlainCell x
-HasForm (pattern_test k case parts) = Fits k × (IsCase case × AreListed IsPart parts)
-HasForm (both f g) = HasForm f × HasForm g
-HasForm (either f g) = HasForm f × HasForm g
-HasForm (negation f) = HasForm f
-
-nests : (f : Formula) (n : ℕ) → HasForm f → height f ≤ n → Nests IsPlainCell n f
-nests (constant t) n h l = tt
-nests (comparison k op x) n h l = h
-nests (null_test k) n h l = h
-nests (membership k xs) n h l = h
-nests (range k x y) n h l = h
-nests (prefix_test k x) n h l = h
-nests (pattern_test k case parts) n h l = h
-nests (both f g) zero h l = absurd (omega (arith, l))
-nests (both f g) (suc n) h l = (nests f n h.0 (omega (arith, l)), nests g n h.1 (omega (arith, l)))
-nests (either f g) zero h l = absurd (omega (arith, l))
-nests (either f g) (suc n) h l = (nests f n h.0 (omega (arith, l)), nests g n h.1 (omega (arith, l)))
-nests (negation f) zero h l = absurd (omega (arith, l))
-nests (negation f) (suc n) h l = nests f n h (omega (arith, l))
+-- both crates count the same
+same-height : (f : Formula) → encoded_height f ≡ height f
+same-height (constant t) = refl
+same-height (comparison k op x) = refl
+same-height (null_test k) = refl
+same-height (membership k xs) = refl
+same-height (range k x y) = refl
+same-height (prefix_test k x) = refl
+same-height (pattern_test k case parts) = refl
+same-height (both f g) = ap₂ (λ (m n : ℕ). suc (max m n)) (same-height f) (same-height g)
+same-height (either f g) = ap₂ (λ (m n : ℕ). suc (max m n)) (same-height f) (same-height g)
+same-height (negation f) = ap suc (same-height f)
 
 -- ---- its tokens' strings
 
@@ -306,5 +293,5 @@ words-nest say read n words named f short few utf8 h =
       types = record { fit = omega (arith, few, length-map named (λ (column : NamedKind). type_at (kind_of_named column))); each = plain-kinds named };
       filter = nests f (encoding_depth n)
           (filter-form (length words) (trees_of_kinds named) (plain-columns say read named) (omega (arith, few, length-map named tree_of_kind)) (omega (arith, short, tokens)) (short, strings-read words h.items utf8 h.are) h.means)
-          (omega (arith, low.high, low.tokens, tokens, short));
+          (omega (arith, low.high, low.tokens, tokens, short, same-height f));
     }

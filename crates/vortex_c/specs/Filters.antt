@@ -8,7 +8,7 @@ use Rattle.column_filters.specs.declared.errors.MaskError.{MaskError}
 use Rattle.column_filters.specs.declared.errors.MaskError.TheVariants as mask
 use Rattle.column_filters.specs.declared.errors.ZoneError.{ZoneError}
 use Rattle.column_filters.specs.declared.errors.ZoneError.TheVariants as zone
-use Rattle.filter_encoding.specs.Answers.{HasNoValue, IsFirstWrong, IsEncoding}
+use Rattle.filter_encoding.specs.Answers.{HasNoValue, HasVersion, IsFirstWrong, IsEncoding}
 use Rattle.filter_encoding.specs.Encoding.{HasEncoding, IsVersion, Prepared, encoding_in}
 use Rattle.filter_encoding.specs.declared.error.FilterEncodingError.{FilterEncodingError}
 use Rattle.filter_encoding.specs.declared.error.FilterEncodingError.TheVariants.{BadBytes, NoEncoding, NotAValue, OutOfMemory}
@@ -29,9 +29,9 @@ pub record IsEncodingOf (n : ℕ) (bytes : List ℕ) (p : Prepared) : Type 0 whe
   pub has_encoding : HasEncoding n p
   pub is : bytes ≡ encoding_in version p
 
--- why bytes are not read as such a filter
+-- why bytes are not read as such a filter: memory is asked for once their first byte is a version
 abbrev pub IsUnread : ℕ → List ℕ → FilterEncodingError → Type 0
-IsUnread n bytes OutOfMemory = Unit {0}
+IsUnread n bytes OutOfMemory = HasVersion bytes
 IsUnread n bytes NoEncoding = ⊥
 IsUnread n bytes (BadBytes place) = IsFirstWrong (IsEncoding n) bytes place
 IsUnread n bytes (NotAValue place) = HasNoValue n bytes place

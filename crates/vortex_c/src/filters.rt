@@ -52,7 +52,7 @@ pub(crate) enum ZonesError {
 ///   or a column has another number of rows.
 /// - `UNKNOWN_KIND`: the kind of a column is none, or with place 1 is not the filter's.
 /// - `TOO_MANY_ROWS`, `TOO_SHORT`, `BAD_OFFSETS`, `NOT_UTF8`, `NOT_A_VALUE`: a column cannot be read.
-/// - `NO_MEMORY`: `fault` is not written.
+/// - `NO_MEMORY`: only if the first byte of the filter is a version, 1 or 2. `fault` is not written.
 #[unsafe(no_mangle)]
 pub extern "C" fn doqallin_filter_mask(
     alloc: Global,
@@ -149,7 +149,7 @@ fn mask_by(
 /// - `WRONG_LENGTH`: there are not as many offsets as pieces, and one more. `fault.column` is their
 ///   number.
 /// - `BAD_OFFSETS`: the offsets of the piece `fault.column` go down, or past the end.
-/// - `NO_MEMORY`: `fault` is not written.
+/// - `NO_MEMORY`: only if the first byte of the filter is a version, 1 or 2. `fault` is not written.
 #[unsafe(no_mangle)]
 pub extern "C" fn doqallin_filter_outcomes(
     alloc: Global,

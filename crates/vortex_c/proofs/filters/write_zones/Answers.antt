@@ -11,4 +11,4 @@ pub returns-in-Ok-clause-refused : goal.returns-in-Ok-clause-refused
 returns-in-Ok-clause-refused c = c.outcomes_by.ensures.refused c.args.depth c.args.filter.now (encoding-of c.args.depth c.args.filter.now c.in-Ok.prepared c.in-Ok.ensures.read)
 
 pub returns-in-Err-clause-refused : goal.returns-in-Err-clause-refused
-returns-in-Err-clause-refused c = unread c.args.depth c.args.filter.now c.in-Err.cause c.in-Err.ensures.refused (λ place e. c.in-Err.ensures.bad place (ap Err e)) (λ place e. c.in-Err.ensures.no_value place (ap Err e))
+returns-in-Err-clause-refused c = unread c.args.depth c.args.filter.now c.in-Err.cause c.in-Err.ensures.refused (λ place e. c.in-Err.ensures.bad place (ap Err e)) (λ place e. c.in-Err.ensures.no_value place (ap Err e)) (λ e. c.in-Err.ensures.memory (ap Err e))
