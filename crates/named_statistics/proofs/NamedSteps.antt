@@ -84,10 +84,10 @@ pub record IsBehind (t : TypeTree) (bytes rest : List ℕ) (start : ℕ) : Type 
   pub count : start ≡ length (head_of t)
 
 -- of bytes from start on, as a slice has them
-pub behind_at : (t : TypeTree) (bytes : List ℕ) (start : ℕ) → (start ≤ length bytes) × (start ≡ length (head_of t)) × (bytes ≡ head_of t ++ drop start bytes) → IsBehind t bytes (take (length bytes - start) (drop start bytes)) start
-behind_at t bytes start h = record {
-  is = h.2 ∙ ap (λ (xs : List ℕ). head_of t ++ xs) (sym (take_all (length bytes - start) (drop start bytes) (omega (arith, length-drop start bytes))));
-  count = h.1;
+pub behind_at : (t : TypeTree) (head bytes : List ℕ) (start : ℕ) → head ≡ head_of t → (start ≤ length bytes) × (start ≡ length head) × (bytes ≡ head ++ drop start bytes) → IsBehind t bytes (take (length bytes - start) (drop start bytes)) start
+behind_at t head bytes start made h = record {
+  is = h.2 ∙ ap (λ (xs : List ℕ). xs ++ drop start bytes) made ∙ ap (λ (xs : List ℕ). head_of t ++ xs) (sym (take_all (length bytes - start) (drop start bytes) (omega (arith, length-drop start bytes))));
+  count = h.1 ∙ ap length made;
 }
 
 pub says_named : (t : TypeTree) (bytes rest : List ℕ) (start : ℕ) → IsBehind t bytes rest start → SaysBound rest → SaysNamedBound t bytes
@@ -215,6 +215,10 @@ no_bound t bytes place h says =
     let all = ap length says.is in
     let inside : place < length bytes = omega (arith, all, length-append (head_of t) says.rest, h.within) in
     h.differs inside (ap (λ (xs : List ℕ). get_or xs place 0) says.is ∙ get_or_append_left (head_of t) says.rest 0 place h.within)
+
+-- a head that was made of the type
+pub wrong_at : (t : TypeTree) (head bytes : List ℕ) (e : StatisticsError) → head ≡ head_of t → (place : ℕ) × (e ≡ BadBytes place) × IsWrongHead head bytes place → (place : ℕ) × (e ≡ BadBytes place) × IsWrongHead (head_of t) bytes place
+wrong_at t head bytes e made h = (h.0, h.1, subst (λ (xs : List ℕ). IsWrongHead xs bytes h.0) made h.2)
 
 pub head_variant : (t : TypeTree) (bytes : List ℕ) (e : StatisticsError) → (place : ℕ) × (e ≡ BadBytes place) × IsWrongHead (head_of t) bytes place → (not_read e ≡ not_read HasVariant) ↔ SaysNamedVariant t bytes
 head_variant t bytes e h = (

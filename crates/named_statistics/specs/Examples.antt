@@ -1,7 +1,6 @@
 -- Worked cases of statistics that name a logical type, each a theorem.
-use Rattle.std.specs.Prelude.{◌≡◌, ℤ, negsuc, pos, true, false, [], ◌∷◌, Option, Some, None, refl}
-use Rattle.vortex_cells.specs.Cells.{Cell}
-use Rattle.vortex_dtype.specs.TypeTree.{TypeTree, integer_type}
+use Rattle.std.specs.Prelude.{◌≡◌, ℤ, pos, true, false, [], ◌∷◌, Option, Some, refl}
+use Rattle.vortex_dtype.specs.TypeTree.{integer_type}
 use Rattle.vortex_dtype.specs.declared.nullability.Nullability.TheVariants.{Nullable}
 use Rattle.vortex_dtype.specs.declared.ptype.PType.TheVariants as ptypes
 use Rattle.vortex_value.specs.Values.Content.{whole}

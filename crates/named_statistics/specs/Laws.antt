@@ -1,5 +1,5 @@
 -- Names tell logical types apart.
-use Rattle.std.specs.Prelude.{◌≡◌, ◌≢◌, ℕ, List, []}
+use Rattle.std.specs.Prelude.{◌≡◌, ◌≢◌, []}
 use Rattle.logical_scalars.specs.Stored.{IsOfLogicalType}
 use Rattle.logical_types.specs.declared.logical.LogicalType.{LogicalType}
 use Rattle.vortex_dtype.specs.TypeTree.{TypeTree}

@@ -11,7 +11,8 @@ use vortex_dtype::DType;
 const VERSION: u8 = 2;
 
 /// What stands before the statistics of a column of the type: nothing, if no logical type has its id.
-pub(crate) fn head_of(dtype: &DType) -> ArrayVec<u8, 4>
+/// For many pieces of one column it is made once, and `decode_piece_by_head_into` takes it.
+pub fn head_of(dtype: &DType) -> ArrayVec<u8, 4>
     ensures { result.items ≡ head_of (type_of dtype.now) }
 {
     let mut head = ArrayVec::new();

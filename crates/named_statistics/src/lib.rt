@@ -7,5 +7,6 @@ pub mod laws;
 mod reading;
 mod writing;
 
-pub use reading::{decode_named_piece_into, decode_named_statistics};
+pub use heads::head_of;
+pub use reading::{decode_named_piece_into, decode_named_statistics, decode_piece_by_head_into};
 pub use writing::append_named_statistics;

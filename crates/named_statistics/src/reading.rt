@@ -33,7 +33,13 @@ pub fn decode_named_statistics(
     ensures refused { IfErr result (IsBadNamedEncoding (type_of dtype.now) bytes.now) }
 {
     let mut statistics = ColumnStatistics::empty();
-    decode_named_into(alloc, dtype, bytes, &mut statistics)?;
+    decode_by_head_into(
+        alloc,
+        dtype,
+        head_of(dtype).as_slice(),
+        bytes,
+        &mut statistics,
+    )?;
     Ok(statistics)
 }
 
@@ -58,20 +64,44 @@ pub fn decode_named_piece_into(
     ensures variant { (result ≡ Err HasVariant) ↔ SaysNamedVariant (type_of dtype.now) piece.now }
     ensures refused { IfErr result (IsBadNamedPiece (type_of dtype.now) piece.now) }
 {
+    decode_piece_by_head_into(alloc, dtype, head_of(dtype).as_slice(), piece, statistics)
+}
+
+/// Puts what `decode_named_piece_into` puts there. The head is what `head_of` gives for the type, made
+/// once for the pieces of many zones.
+pub fn decode_piece_by_head_into(
+    alloc: Global,
+    dtype: &DType,
+    head: &[u8],
+    piece: &[u8],
+    statistics: &mut ColumnStatistics,
+) -> Result<(), StatisticsError>
+    requires { head.now ≡ head_of (type_of dtype.now) }
+    ensures said { OnOk result (SaysNamed (type_of dtype.now) piece.now (known statistics.new)) }
+    ensures valid { OnOk result (HasValidBounds statistics.new) }
+    ensures whole { (s : Known) → SaysNamed (type_of dtype.now) piece.now s
+        → ReadsInto s (known statistics.new) result }
+    ensures right { OnOk result
+        (ReadsNamed (type_of dtype.now) piece.now (known statistics.new)) }
+    ensures variant { (result ≡ Err HasVariant) ↔ SaysNamedVariant (type_of dtype.now) piece.now }
+    ensures refused { IfErr result (IsBadNamedPiece (type_of dtype.now) piece.now) }
+{
     if piece.is_empty() {
         *statistics = nothing_known();
         return Ok(());
     }
-    decode_named_into(alloc, dtype, piece, statistics)
+    decode_by_head_into(alloc, dtype, head, piece, statistics)
 }
 
-/// Puts what `decode_named_statistics` gives in the place of statistics.
-fn decode_named_into(
+/// Puts what `decode_named_statistics` gives in the place of statistics, by the head of the type.
+fn decode_by_head_into(
     alloc: Global,
     dtype: &DType,
+    head: &[u8],
     bytes: &[u8],
     statistics: &mut ColumnStatistics,
 ) -> Result<(), StatisticsError>
+    requires { head.now ≡ head_of (type_of dtype.now) }
     ensures read { OnOk result
         (IsNamedEncodingAs (type_of dtype.now) bytes.now (known statistics.new)) }
     ensures valid { OnOk result (HasValidBounds statistics.new) }
@@ -82,22 +112,20 @@ fn decode_named_into(
     ensures variant { (result ≡ Err HasVariant) ↔ SaysNamedVariant (type_of dtype.now) bytes.now }
     ensures refused { IfErr result (IsBadNamedEncoding (type_of dtype.now) bytes.now) }
 {
-    let start = read_head(dtype, bytes)?;
+    let start = read_head(head, bytes)?;
     match decode_statistics_into(alloc, dtype, &bytes[start..], statistics) {
         Ok(()) => Ok(()),
         Err(refusal) => Err(refusal_from(start, refusal)),
     }
 }
 
-/// The length of what stands before the statistics, if it is what the type asks for.
-fn read_head(dtype: &DType, bytes: &[u8]) -> Result<usize, StatisticsError>
-    ensures read { IfOk result (λ start. (start ≤ length bytes.now) × (start ≡ length (head_of (type_of dtype.now)))
-        × (bytes.now ≡ head_of (type_of dtype.now) ++ drop start bytes.now)) }
-    ensures refused { IfErr result (λ e. (place : ℕ) × (e ≡ BadBytes place)
-        × IsWrongHead (head_of (type_of dtype.now)) bytes.now place) }
+/// The length of a head, if the bytes begin with it.
+fn read_head(head: &[u8], bytes: &[u8]) -> Result<usize, StatisticsError>
+    ensures read { IfOk result (λ start. (start ≤ length bytes.now) × (start ≡ length head.now)
+        × (bytes.now ≡ head.now ++ drop start bytes.now)) }
+    ensures refused { IfErr result
+        (λ e. (place : ℕ) × (e ≡ BadBytes place) × IsWrongHead head.now bytes.now place) }
 {
-    let head = head_of(dtype);
-    let head = head.as_slice();
     for offset in 0..head.len() {
         if offset >= bytes.len() || bytes[offset] != head[offset] {
             return Err(StatisticsError::BadBytes { offset });
