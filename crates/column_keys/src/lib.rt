@@ -22,7 +22,9 @@ mod values;
 mod writing;
 
 pub use buffers::ColumnBuffers;
+pub use counting::count_column;
 pub use decoding::{columns_of_keys, columns_of_typed_keys};
 pub use errors::{KeysError, TableError};
 pub use key_columns::{KeyColumn, options_of_byte, read_columns};
 pub use table::{row_keys_length, write_row_keys};
+pub use writing::write_column;

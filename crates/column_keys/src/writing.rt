@@ -46,7 +46,7 @@ pub(crate) fn write_columns(
 }
 
 /// Writes one column, of this kind.
-fn write_column(rows: &[Vec<Scalar>], which: usize, kind: Kind, column: &mut ColumnBuffers)
+pub fn write_column(rows: &[Vec<Scalar>], which: usize, kind: Kind, column: &mut ColumnBuffers)
     requires few { length rows.now < usize.MAX }
     requires cells { HaveColumn rows.now which }
     requires typed { All (Valid (type_of_kind kind)) (raws_in rows.now which) }

@@ -1,0 +1,4 @@
+mod BufferSteps
+mod KindValues
+mod RowSteps
+mod WordValues
