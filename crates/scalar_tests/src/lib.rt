@@ -19,6 +19,7 @@ mod hashers;
 pub mod indexes;
 #[cfg(test)]
 mod items;
+pub mod joined_indexes;
 pub mod key_laws;
 pub mod key_returns;
 pub mod keyed;
