@@ -1,12 +1,15 @@
 # SPDX-License-Identifier: Apache-2.0
-"""The documents beside the sources, for tests/definitions: names, files, links, calls, crates, numbers and lengths. Each function
-of CHECKS yields pairs: whether something is right, and what is wrong if not."""
+"""The documents beside the sources, for tests/definitions: names, files, links, calls, crates, numbers and lengths, also in the
+header for C and in tools/help. Each function of CHECKS yields pairs: whether something is right, and what is wrong if not."""
 import glob, importlib.machinery, importlib.util, itertools, math, os, re, sys
 
 TOP = os.path.dirname(os.path.dirname(os.path.abspath(__file__)))
 DOCUMENTS = ["README.md", "CHANGELOG.md", "CONTRIBUTING.md"]
 DOCUMENTS += sorted(os.path.relpath(path, TOP) for path in glob.glob(f"{TOP}/docs/*.md"))
-MOST_WORDS = {"all documents": 25_000, "docs/ARCHITECTURE.md": 2_400}
+HEADER = "bindings/c/doqallin.h"
+MOST_WORDS = {"all documents": 25_000, "README.md": 900, "docs/ARCHITECTURE.md": 2_400, "docs/CLAIMS.md": 3_000}
+MOST_WORDS |= {"docs/DEFINITIONS.md": 2_600, "docs/MEASUREMENTS.md": 1_800}
+LONGEST_SENTENCE = 30
 # Names of what is no more, of upstream's, of the kit's and its command's, and of a caller's own.
 ELSEWHERE = set(
     """vortex_ VORTEX_ vortex DOQALLIN_NO_ROOM NO_ROOM filter_form place line_zones lines find show
@@ -91,6 +94,39 @@ def names():
             yield not lost, f"{page}: no program has the option {' '.join(lost)}"
             if re.fullmatch(r"(crates|docs|tests|tools|bench|bindings(?!/out)|\.ci)/[\w./-]*", code) and "NAME" not in code:
                 yield os.path.exists(f"{TOP}/{code}"), f"{page}: no file is {code}"
+
+
+def comments(path):
+    """Returns the comments of the header, without the stars in front of their lines."""
+    return [re.sub(r"\n +\* ?", "\n", comment).strip() for comment in re.findall(r"/\*(.*?)\*/", read(path), re.DOTALL)]
+
+
+def header_names():
+    """Each call, status, parameter and member that a comment of the header names is there, and each file."""
+    code = re.sub(r"/\*.*?\*/", "", read(HEADER), flags=re.DOTALL)
+    known = set(re.findall(r"\w+", code)) | {name.removeprefix("DOQALLIN_") for name in re.findall(r"DOQALLIN_\w+", code)}
+    # Words of a setup, of a file's name, and of the licence.
+    known |= {"WORD", "FILE", "SPDX"}
+    pattern = r"\bdoqallin_\w+|\b(?:[A-Z][A-Z\d]*_[A-Z\d_]*[A-Z\d]|[A-Z]{4,})\b(?!\.md)|(?<=->)\w+|(?<=\*)[a-z]\w+"
+    for comment in comments(HEADER):
+        lost = set(re.findall(pattern, comment)) - known
+        yield not lost, f"{HEADER}: nothing is named {' '.join(lost)}, as in: {comment[:60]}"
+        for name in re.findall(r"\b(?:docs|crates)/[\w./]*\w", comment):
+            yield os.path.exists(f"{TOP}/{name}"), f"{HEADER}: no file is {name}"
+
+
+def helps():
+    """Each option in tools/help is one that its program or its launcher takes, each command is one, and each file is there."""
+    launched = set(re.findall(r"^    --(\w+)\)", read("tools/run_program"), re.MULTILINE)) | {"help"}
+    for path in files("tools/help", ""):
+        program, _, command = os.path.basename(path).partition("-")
+        text, source = read(path), "".join(read(name) for name in files(f"crates/{program}/src", ".rt"))
+        taken = launched | set(re.findall(r'"(?:--)?([a-z][a-z-]*)"', source))
+        lost = set(re.findall(r"(?<![\w-])--([a-z][a-z-]*)", text)) - taken
+        yield not lost, f"{path}: {program} has no option {' '.join(lost)}"
+        yield not command or command in taken, f"{path}: {program} has no command {command}"
+        for name in re.findall(r"\b(?:docs|crates)/[\w./]*\w", text):
+            yield os.path.exists(f"{TOP}/{name}"), f"{path}: no file is {name}"
 
 
 def calls():
@@ -299,7 +335,7 @@ def of_limits():
         ("docs/FILTERS.md", "- and at most {} connectives and parentheses nest", [nested]),
         ("docs/FILTERS.md", "a chain has at most {} parts", [nested + 1]),
         ("docs/FILTERS.md", "{} if the filter can be False, plus {} if it can be Unknown, plus {} if", bits),
-        ("docs/FILTERS.md", "Rust and Python use {} unless you pass one", [constant("bindings/rust/src/filter.rs", "DEPTH")]),
+        ("docs/FILTERS.md", "In Rust and Python it is {} if you pass none", [constant("bindings/rust/src/filter.rs", "DEPTH")]),
         ("docs/SEARCHES.md", "for each zone of {} records", [int(records)]),
         ("docs/SEARCHES.md", "strings cut to {} bytes", [int(cut)]),
         ("docs/SEARCHES.md", "{} says that the input is above a megabyte and {} that there was no answer; {} says", [*map(int, ends)]),
@@ -313,6 +349,7 @@ def of_tests():
     tables = constant("tests/filters", "TABLES")
     each, zones = map(int, re.search(r"FILTERS, ZONES, ROWS, COLUMNS = (\d+), (\d+)", read("tests/filters")).groups())
     columns = read("tests/keys").partition("COLUMNS = [")[2].partition("\n]")[0].count("Column(")
+    cases = int(re.search(r"^(\d+) cases, 0 wrong$", read("crates/scalar_cases/stdout"), re.MULTILINE)[1])
     values = re.search(r'"DOQALLIN_COUNT", ([\d_]+)', read("bindings/python/test_doqallin.py"))[1]
     return [
         ("README.md", "Calls on values take {} of plain Rust's", [mean]),
@@ -320,12 +357,13 @@ def of_tests():
         ("docs/WHICH_TOOL.md", "{} % of the work", by_index),
         ("docs/MEASUREMENTS.md", "the geometric mean of the {} ratios is {}", [count, mean]),
         ("docs/PROVED.md", "{} wrong bodies, each", [edits]),
-        ("docs/TESTING.md", "There are {} of at most 70.", [edits]),
+        ("docs/PROVED.md", "more than {} worked cases", [cases // 1000 * 1000]),
+        ("docs/TESTING.md", "There are {}.", [edits]),
         ("docs/MEASUREMENTS.md", "edits (now {})", [edits]),
         ("docs/TESTING.md", "that {} random rows in each of {} columns", [constant("tests/keys", "ROWS"), columns]),
         ("docs/TESTING.md", "for {} random filters over {} tables", [tables * each, tables]),
         ("docs/TESTING.md", "for {} random zones", [tables * each * zones]),
-        ("docs/TESTING.md", "the words of {} random values of each logical type", [constant("tests/words", "VALUES")]),
+        ("docs/TESTING.md", "print and read {} random values of each logical type", [constant("tests/words", "VALUES")]),
         ("docs/TESTING.md", "the stored cases of {} calls", [line_after("bench/values", "CALLS = (").count('"') // 2]),
         ("docs/TESTING.md", "which it builds: {} random values of each call", [int(values)]),
     ]
@@ -339,6 +377,16 @@ def numbers():
         yield found, f"{page}: it says no more: {sentence}"
         if found:
             yield [number(text) for text in found.groups()] == wanted, f"{page}: it is {wanted}: {found[0]}"
+
+
+def times():
+    """The times of README.md's commands are those that tools/run_program says."""
+    said = re.findall(r"^ *(compiling|building)='(.*)'$", read("tools/run_program"), re.MULTILINE)
+    commands = ["./zone_map find - ", "./zone_map --build", "./scalar_rows --build"]
+    # The first two are for zone_map, and what follows is for scalar_rows.
+    for command, (_, time) in zip(commands, [*said[:2], said[3]], strict=True):
+        row = re.search(rf"^\| `{re.escape(command)}.* \| (.*) \|$", read("README.md"), re.MULTILINE)
+        yield row and row[1] == time, f"README.md: {command} takes {time}"
 
 
 def quotients():
@@ -404,6 +452,28 @@ def statuses():
     yield not lost, f"docs/RUST_AND_C.md: the table lacks {' '.join(sorted(lost))}"
 
 
+def sentences(text):
+    """Returns the sentences of prose, list items and cells, each as a list of words; a piece of code is one word."""
+    text = re.sub(r"\[([^]]*)\]\([^)]*\)", lambda link: link[1][:1].upper() + link[1][1:], text)
+    text = re.sub(r"^(#.*|\|[-| ]+\|)$", "", text, flags=re.MULTILINE)
+    text = re.sub(r"`[^`]+`|\b\w+->\w+|(?<=\s)\*[a-z]\w*\b(?!\*)", "Code", text)
+    found = []
+    for part in re.split(r"\n\s*\n|\n(?=\s*(?:[-*]|\d+\.) )|\n(?=\|)| \| ", text):
+        # The mark of an item, and a bold head.
+        part = re.sub(r"^\s*(?:(?:[-*|]|\d+\.) )?(?:\*\*[^*]+\*\*:?)?", "", part)
+        found += [words.split() for words in re.split(r"[.!?:]\W*\s+(?=[(\"']?[A-Z\d])", part)]
+    return found
+
+
+def lengths_of_sentences():
+    """No sentence of a document, or of a comment of the header, has more than thirty words."""
+    texts_of = {page: [prose(page)] for page in DOCUMENTS} | {HEADER: comments(HEADER)}
+    for page, parts in texts_of.items():
+        for words in sentences("\n\n".join(parts)):
+            is_short = len(words) <= LONGEST_SENTENCE
+            yield is_short, f"{page}: a sentence of {len(words)} words: {' '.join(words[:12])}"
+
+
 def versions():
     """Each document names the version of upstream that NOTICE has."""
     version = r"vortex-array (\d+\.\d+\.\d+)"
@@ -420,5 +490,5 @@ def lengths():
         yield counts[page] <= most, f"{page}: {counts[page]} words, of at most {most}"
 
 
-CHECKS = [names, calls, links, printed_claims, tables, blocks, kit_crates, crates, numbers, quotients]
-CHECKS += [first_bytes, filter_bytes, named_types, statuses, examples, versions, lengths]
+CHECKS = [names, header_names, helps, calls, links, printed_claims, tables, blocks, kit_crates, crates, numbers, quotients]
+CHECKS += [first_bytes, filter_bytes, named_types, statuses, examples, versions, times, lengths, lengths_of_sentences]

@@ -1,8 +1,8 @@
 #!/bin/sh
 # SPDX-License-Identifier: Apache-2.0
 # Runs the built program `scalar_rows` under real faults: a folder as its input, a full device as its output, an input that does
-# not end. It also refuses each allocation, each read and each write in turn. The last line is 'N passed, M failed'; the status
-# is 1 if any failed.
+# not end. It also refuses each allocation, each read and each write in turn. `scalar_cases`, which reads its input in another way,
+# has each read and each write refused too. The last line is 'N passed, M failed'; the status is 1 if any failed.
 set -eu
 top=$(CDPATH='' cd -- "$(dirname -- "$0")/.." && pwd)
 program=$top/crates/scalar_rows/out/scalar_rows
@@ -45,8 +45,8 @@ with_io() {
     attempt env "$@" LD_PRELOAD="$folder/fail_io.so" "$program" < "$folder/input" > "$folder/output"
 }
 
-# each_fails SETTING FAULT SHORT: makes the first read or write fail, then the second, and so on until the run has no more. A
-# run must end with the fault, and with what the earlier writes wrote, each as much as SHORT says.
+# each_fails SETTING FAULT SHORT COUNT: makes the first read or write fail, then the second, and so on until the run has no more,
+# which is after COUNT of them. A run must end with the fault, and with what the earlier writes wrote, each as much as SHORT says.
 each_fails() {
     place=1
     while [ "$place" -le 1000 ]; do
@@ -63,13 +63,37 @@ each_fails() {
         place=$((place + 1))
     done
     judge "$1: none of $((place - 1)) fails" 0 "$folder/rows" "$folder/nothing"
-    if [ "$place" -lt 4 ]; then
+    if [ "$((place - 1))" -eq "$4" ]; then
+        passed=$((passed + 1))
+    else
         failed=$((failed + 1))
-        echo "$1: only $((place - 1)) failed"
+        echo "$1, $3: $((place - 1)) failed, not $4"
     fi
 }
 
+# pieces FILE BYTES: in how many pieces of at most so many bytes a file is read or written
+pieces() {
+    echo $((($(wc -c < "$1") + $2 - 1) / $2))
+}
+
+# fail_in_turn READ WRITE: makes each read fail in turn, and each write, if these take so many bytes. One read more meets the end.
+# A read that may take more takes 4,096 bytes.
+fail_in_turn() {
+    each_fails FAIL_READ "$folder/read" "SHORT_READ=$1" $(($(pieces "$folder/input" "$1") + 1))
+    each_fails FAIL_READ "$folder/read" SHORT_READ=1000000 $(($(pieces "$folder/input" 4096) + 1))
+    each_fails FAIL_WRITE "$folder/write" "SHORT_WRITE=$2" "$(pieces "$folder/rows" "$2")"
+}
+
+# judge_many_reads OUTPUT STATUS: an input of as many reads as are made gives this, and one that does not end is a failed read
+judge_many_reads() {
+    attempt env SHORT_READ=1 LD_PRELOAD="$folder/fail_io.so" "$program" < "$folder/long" > "$folder/output"
+    judge 'an input of as many reads as are made' "$2" "$1" "$folder/nothing"
+    attempt env SHORT_READ=1 LD_PRELOAD="$folder/fail_io.so" "$program" < /dev/zero > "$folder/output"
+    judge 'an input that does not end' 1 "$folder/nothing" "$folder/read"
+}
+
 "$top/scalar_rows" --build < /dev/null
+"$top/scalar_cases" --build < /dev/null
 build_refusals
 : > "$folder/nothing"
 echo 'read failed' > "$folder/read"
@@ -96,15 +120,11 @@ judge 'a full device as the output' 1 "$folder/nothing" "$folder/write"
 attempt "$program" < /dev/null > "$folder/output"
 judge 'an empty input' 0 "$folder/nothing" "$folder/nothing"
 
-each_fails FAIL_READ "$folder/read" SHORT_READ=1000
-each_fails FAIL_WRITE "$folder/write" SHORT_WRITE=200
+fail_in_turn 1000 200
 
 echo 'bad line' > "$folder/bad"
 head -c 1048575 /dev/zero > "$folder/long"
-attempt env SHORT_READ=1 LD_PRELOAD="$folder/fail_io.so" "$program" < "$folder/long" > "$folder/output"
-judge 'an input of as many reads as are made' 0 "$folder/bad" "$folder/nothing"
-attempt env SHORT_READ=1 LD_PRELOAD="$folder/fail_io.so" "$program" < /dev/zero > "$folder/output"
-judge 'an input that does not end' 1 "$folder/nothing" "$folder/read"
+judge_many_reads "$folder/bad" 0
 
 allocation=1
 while [ "$allocation" -le 1000 ]; do
@@ -120,6 +140,13 @@ if [ "$allocation" -lt 3 ]; then
     failed=$((failed + 1))
     echo "only $((allocation - 1)) allocations were refused"
 fi
+
+program=$top/crates/scalar_cases/out/scalar_cases
+grep '^cast ' "$top/crates/scalar_cases/stdin" | head -n 300 > "$folder/input"
+echo '300 cases, 0 wrong' > "$folder/rows"
+fail_in_turn 1000 4
+printf 'line 1: bad line\n1 cases, 1 wrong\n' > "$folder/bad"
+judge_many_reads "$folder/bad" 1
 
 echo "$passed passed, $failed failed"
 [ "$failed" -eq 0 ]

@@ -70,7 +70,7 @@ class Column(Sequence[Any]):
     """A column: values of one kind or None, as Arrow lays them out.
 
     `column` makes one, and some calls answer one. It is a sequence, and a slice of it shares its memory. It is Arrow data itself,
-    so pyarrow, polars and others take it uncopied; `buffers` lends the memory to what knows no Arrow. Floats, decimals, dates, times and timestamps are those of Python; of two columns all NaNs are equal.
+    so readers of Arrow data take it uncopied; `buffers` lends the memory to what knows no Arrow. Floats, decimals, dates, times and timestamps are those of Python; of two columns all NaNs are equal.
 
     >>> numbers = column([3, None, 5])
     >>> numbers, numbers[0], list(numbers[1:]), numbers.null_count
@@ -131,7 +131,7 @@ class Column(Sequence[Any]):
     def buffers(self) -> tuple[memoryview | None, memoryview | None, memoryview | None]:
         """The memory: the validity bitmap, the offsets and the values, each None if there is none. They live as the column does.
 
-        `pyarrow.Array.from_buffers` takes those that a kind has, and `numpy.frombuffer` takes the values.
+        `numpy.frombuffer` takes the values.
         """
 
         def lent(buffer: Buffer) -> memoryview | None:
@@ -148,7 +148,7 @@ class Column(Sequence[Any]):
         return schema_of_column(self)
 
     def __arrow_c_array__(self, requested_schema: object = None) -> tuple[object, object]:
-        """The column's format and its memory, uncopied, in capsules of Arrow's C data interface: `pyarrow.array` and others take it.
+        """The column's format and its memory, uncopied, in capsules of Arrow's C data interface.
 
         The format is the column's own, whatever is requested. A zone is UTC, since timestamps with a zone count in it.
         """

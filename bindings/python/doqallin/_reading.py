@@ -115,7 +115,6 @@ def columns(table: Any, names: Iterable[str] | None = None) -> dict[str, Column]
 def table(data: Any, names: Iterable[str] | None = None) -> Table:
     """The same columns as a `Table`, which goes on uncopied into what takes Arrow data.
 
-    That is `pyarrow.table(..)`, `polars.DataFrame(..)`, `pandas.DataFrame.from_arrow(..)`, or a query of DuckDB that names it.
     Raises WrongLength if the columns are not equally long.
 
     >>> cities = column(["Oslo", "Bergen", None])

@@ -2,7 +2,9 @@
 //! maps stop at the first wrong entry.
 
 ghost use Rattle.std.specs.Prelude.{IfSome};
-ghost use Rattle.scalar_tests.specs.Words.{IsValid, IsValidEntry, at_most};
+ghost use Rattle.std.specs.Iterator.{at_most};
+ghost use Rattle.vortex_value.specs.Makers.{IsValidEntry};
+ghost use Rattle.vortex_value.specs.Values.Scalars.{IsValid};
 
 use crate::fixtures::{I32, map, struct_of_two};
 use std::cell::Cell;

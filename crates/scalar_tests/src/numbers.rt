@@ -1,19 +1,6 @@
-//! Integer values alone: numbers that do not fit, and the bytes of numbers.
+//! The bytes of integer values.
 
-use vortex_dtype::VortexError;
 use vortex_pvalue::PValue;
-
-#[test]
-fn numbers_that_do_not_fit_are_refused(rt: HostRuntime) {
-    assert!(rt; matches!(u8::try_from(PValue::I32(255)), Ok(255)));
-    assert!(rt; matches!(u8::try_from(PValue::I32(300)), Err(VortexError::OutOfRange)));
-    assert!(rt;
-        matches!(
-            usize::try_from(PValue::I64(-1)),
-            Err(VortexError::OutOfRange)
-        )
-    );
-}
 
 #[test]
 fn bytes_lowest_first(rt: HostRuntime) {

@@ -1,6 +1,6 @@
 //! Calls with arguments that no worked case, no file and no text of a filter gives.
 
-use crate::fixtures::{I32, integer, variant};
+use crate::fixtures::I32;
 use csv_records::{Delimiter, plain_end};
 use record_rows::{ColumnType, FieldReading, Kind, ObserveError, Schema, observe_record};
 use statistics_bytes::decode_statistics_into;
@@ -10,9 +10,9 @@ use vortex_dtype::Nullability::{NonNullable, Nullable};
 use vortex_dtype::{DType, PType};
 use vortex_filter::{CompareOperator, Filter, FilterError};
 use vortex_pvalue::PValue;
-use vortex_row::{RowError, SortOptions, append_key, decode_key_into};
+use vortex_row::{SortOptions, decode_key_into};
 use vortex_statistics::{Bound, ColumnStatistics};
-use vortex_value::{Scalar, ScalarRef, ScalarValue};
+use vortex_value::{Scalar, ScalarValue};
 use zone_index::{ReadAt, SearchError, fill_from};
 
 // ---- filters
@@ -127,7 +127,7 @@ fn statistics_that_count_all_rows_take_no_record(rt: HostRuntime) {
     drop(schema);
 }
 
-// ---- what is read into a place, and what a refusal leaves there
+// ---- what is read into a place. That a refused key leaves no byte, a clause of `append_key` says.
 
 /// Version 1, the flag of a lower bound, one row, and the key of 2.
 const LOWER_BOUND: [u8; 12] = [1, 2, 0, 0, 0, 0, 0, 0, 0, 1, 13, 2];
@@ -171,16 +171,4 @@ fn a_key_read_over_a_scalar_has_its_own_type(rt: HostRuntime) {
     assert!(rt; read.is_ok());
     assert!(rt; !scalar.dtype.is_nullable());
     drop(scalar);
-}
-
-#[test]
-fn a_refused_key_leaves_no_byte(rt: HostRuntime) {
-    let all = [Scalar {
-        dtype: DType::Variant(NonNullable),
-        value: variant(&rt, I32, integer(1)),
-    }];
-    let mut key = Vec::new(rt.alloc());
-    let refused = append_key(ScalarRef::of(&all[0]), SortOptions::default(), &mut key);
-    assert!(rt; matches!(refused, Err(RowError::HasVariant)));
-    assert!(rt; key.is_empty());
 }

@@ -1,18 +1,6 @@
-//! The file that docs/RATTLE.md shows, run.
+//! A call of the file that docs/RATTLE.md shows. Cases have the casts of the other one.
 
-use crate::tour::{may_contain, thousand_as};
-use vortex_array::{Nullability, PType, Scalar, VortexError};
-
-#[test]
-fn a_number_is_cast_or_refused(rt: HostRuntime) {
-    let cast = thousand_as(rt.alloc(), PType::I16).expect(&rt, "the same number");
-    let refused = thousand_as(rt.alloc(), PType::I8);
-    let wanted = [Scalar::primitive(1000i16, Nullability::NonNullable)];
-    assert!(rt; cast == wanted[0]);
-    assert!(rt; matches!(&refused, Err(VortexError::CannotCast)));
-    drop(cast);
-    drop(refused);
-}
+use crate::tour::may_contain;
 
 #[test]
 fn a_word_outside_of_the_bounds_is_ruled_out(rt: HostRuntime) {
