@@ -12,6 +12,7 @@ pub mod filter_laws;
 pub mod filter_texts;
 pub mod float_zones;
 pub mod indexes;
+pub mod joined_indexes;
 pub mod key_laws;
 pub mod key_returns;
 pub mod keyed;

@@ -4,9 +4,9 @@ ghost use Rattle.std.specs.Prelude.{◌≡◌, ◌++◌, ◌<◌, ◌^◌, List,
 ghost use Rattle.std.specs.Prelude.{true};
 ghost use Rattle.std.specs.Int.{to_le_bytes, w64};
 ghost use Rattle.csv_records.specs.Records.{records_of};
-ghost use Rattle.record_search.specs.Words.{AreAllComplete, AreAllValid, AreDescribed, AreDescribedFully, AreRowsOf, Cell};
+ghost use Rattle.record_search.specs.Words.{AreAllComplete, AreDescribed, AreDescribedFully, AreRowsOf, Cell};
 ghost use Rattle.record_search.specs.Words.{DescribeRows, DescribeRowsFully, HaveTypes, IfRecordRefused, IsHeldKnown};
-ghost use Rattle.record_search.specs.Words.{ObservesRow, PushesCut, RefusesRecord};
+ghost use Rattle.record_search.specs.Words.{AreAllValid, ObservesRow, PushesCut, RefusesRecord};
 ghost use Rattle.record_search.specs.Words.{SomeIsFull, TellsOffset, TellsOneOf, TellsRecord};
 ghost use Rattle.record_search.specs.Words.{before_refused, bytes_encoding, encoding, has_row, is_refused, known};
 ghost use Rattle.record_search.specs.Words.{longer_under, nulls_under, row_under, rows_under, told};

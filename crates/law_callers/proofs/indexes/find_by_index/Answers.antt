@@ -1,13 +1,25 @@
 -- The zones that are read back are an index of the file's bytes.
-use Rattle.std.proofs.Common.{◌≡◌, ◌∙◌, ◌++◌, ℕ, List, Option, Some, Ok, subst, sym}
+use Rattle.std.proofs.Common.{◌≡◌, ◌∙◌, ◌++◌, ℕ, List, Option, Some, Ok, arith, length, subst, sym}
 use Rattle.vortex_filter.specs.Formula.{formula}
+use Rattle.zone_index.specs.Encoding.{HavePieces, zone_values}
+use Rattle.zone_index.specs.declared.encoding.WriteError.TheVariants.{Memory, Pieces}
 use Rattle.zone_index.specs.declared.zones.Zone.{Zone}
 use Rattle.record_search.specs.Answers.{AnswersFindRows}
 use Rattle.record_search.specs.Searched.{IsRowIndex}
 use Rattle.law_callers.proofs.indexes.find_by_index.Goals as goal
 
-pub returns : goal.returns
-returns g c = λ kept header bytes long is held.
+pub returns-in-Err-Pieces-clause-kept : goal.returns-in-Err-Pieces-clause-kept
+returns-in-Err-Pieces-clause-kept g c = λ header bytes long is.
+    let s = c.args.sought.now.schema.now in
+    let zones = c.in_ok-indexed.indexed.zones.items in
+    let have = c.right_indexes_have_pieces.ensures s c.args.start.place zones (header ++ bytes) (c.in_ok-indexed.ensures.right header bytes long is) in
+    let many : length s.columns.items ≡ c.len-columns.result = omega (arith, c.len-columns.ensures, s.columns.ok) in
+    let own = subst (λ (n : ℕ). HavePieces n (zone_values zones) have.0) many have.1 in
+    let wrong : Pieces ≡ Memory = (rw c.in-Err-Pieces.field-0-is at c.in-Err-Pieces.ensures.written) have.0 own in
+    absurd cc
+
+pub returns-clause-found : goal.returns-clause-found
+returns-clause-found g c = λ header bytes long is held.
     let m = c.args.sought.now in
     let s = m.schema.now in
     let f = formula m.filter.now in
