@@ -422,9 +422,23 @@ class OfIndexes(InAFolder):
 
 
 class OfTheModule(InAFolder):
-    def run_module(self, *words):
-        ran = subprocess.run([sys.executable, "-m", "doqallin", *map(str, words)], capture_output=True, cwd=Path(__file__).parent)
+    """`python -m doqallin`: it answers as the program does, with the same words, rows and status."""
+
+    def run_module(self, *words, text=b"", output=subprocess.PIPE):
+        here = {**os.environ, "PYTHONPATH": str(Path(__file__).resolve().parent)}
+        ran = subprocess.run([sys.executable, "-m", "doqallin", *map(str, words)], input=text, stdout=output, stderr=subprocess.PIPE, cwd=self.folder, env=here)
         return ran.returncode, ran.stdout, ran.stderr.decode()
+
+    def see_the_same(self, *words, text=b""):
+        ran = subprocess.run([PROGRAM, *words], input=text, capture_output=True, cwd=self.folder)
+        status, output, told = self.run_module(*words, text=text)
+        with self.subTest(words):
+            told = told.replace("`python -m doqallin index`", "`zone_map index`")
+            self.assertEqual((status, output, told), (ran.returncode, ran.stdout, ran.stderr.decode()))
+
+    def write_several(self):
+        for name, text in [("good.csv", b'1,Oslo\n2,"a\nb"'), ("bad.csv", b"3,Bern\nx,Rome\n"), ("other.csv", b"7\n"), ("head.csv", b"id,the city\n1,Oslo\n2,\n")]:
+            (self.folder / name).write_bytes(text)
 
     def test_find_and_count(self):
         rows = random_rows(random.Random(8), 500)
@@ -433,9 +447,85 @@ class OfTheModule(InAFolder):
         self.assertEqual(self.run_module("find", path, "town = 'Oslo'"), (0, text_of(wanted), ""))
         self.assertEqual(self.run_module("count", path, "town = 'Oslo'"), (0, b"%d\n" % len(wanted), ""))
         self.assertEqual(self.run_module("find", path, "id < 0"), (1, b"", ""))
-        status, said, told = self.run_module("find", path, "town >")
-        self.assertEqual((status, said), (2, b""))
-        self.assertIn("expected a literal", told)
+        for words in ["town = 'Oslo'", "id between 100 and 120", "id >= 0", "id < 0", "fare is null and id < 40"]:
+            for more in [[], ["--numbers"], ["-H", "--tell"], ["--whole", "--columns", COLUMNS, "--numbers"]]:
+                self.see_the_same("find", "trips.csv", *more, words)
+            self.see_the_same("count", "--tell", "trips.csv", words)
+
+    def test_several_files(self):
+        self.write_several()
+        files, columns = ["good.csv", "bad.csv", "good.csv"], ["--columns", "id i64, city utf8"]
+        for words in [
+            ["find", *files, "id = 2", *columns],
+            ["find", *files, "id = 2", *columns, "--no-filename"],
+            ["count", *files, "id = 2", *columns],
+            ["count", "--where", "id = 2", "--columns", "id i64?, city utf8", *files],
+            ["find", "good.csv", "id = 2", *columns],
+            ["find", "good.csv", *columns, "-H", "id = 2", "--numbers"],
+            ["find", "good.csv", "id = 1", *columns, "--no-filename", "-H"],
+            ["find", "good.csv", "id = 1", *columns, "-H", "--no-filename"],
+            ["find", "*.csv", "$1 = '1'"],
+            ["find", "none.csv", "good.csv", "$1 = 2"],
+            ["count", "p*.csv", "$1 = 2"],
+            ["find", "other.csv", "good.csv", "city = 'Oslo'"],
+            ["find", "head.csv", "id = 2", "--header", "--numbers"],
+            ["find", "head.csv", "id = 2", "--header", "--columns", '"the city" utf8?'],
+            ["find", "good.csv", "line = '1,Oslo'", "--numbers"],
+            ["count", "good.csv", "good.csv", "$1 = 9"],
+        ]:
+            self.see_the_same(*words)
+        text = b"10.0.0.7\n10.0.0.9\n"
+        self.see_the_same("find", "-", "line = '10.0.0.9'", "--numbers", text=text)
+        self.see_the_same("count", "-", "-H", "$1 = '10.0.0.9'", "--delimiter", "none", "--columns", "$1 utf8", text=text)
+        self.see_the_same("find", "-", "good.csv", "id = 1", *columns, text=b"x,y\n")
+
+    def test_what_is_wrong(self):
+        self.write_several()
+        columns = ["--columns", "id i64, city utf8"]
+        for words in [
+            ["find", "good.csv", "bad.csv", "city = "],
+            ["find", "good.csv", "$1 = 'ä' or $2 = 1"],
+            ["find", "good.csv", "$1 = 1 or\n\t$2 + 1"],
+            ["find", "bad.csv", "id = 4", *columns],
+            ["find", "other.csv", "id = 3", *columns],
+            ["find", "none.csv", "id = 3"],
+            *(["find", "good.csv", "id = 3", "--columns", text] for text in ("id", "", "id i64,", '"id i64', '"id" i64, "', '"" i64', "i64", "id i64, id utf8")),
+            *(["find", "good.csv", "id = 3", "--delimiter", text] for text in ('"', "\n", "ab", "", "é")),
+            ["find", "good.csv", "id = 3", "--null", "a\nb"],
+        ]:
+            self.see_the_same(*words)
+        for words in (["find", "good.csv"], ["count", "--where", "id = 1"], ["find", "-e"], ["index"], ["show"], ["none"], []):
+            status, output, told = self.run_module(*words)
+            self.assertEqual((status, output), (2, b""), words)
+            self.assertIn("error: ", told)
+        self.assertEqual(self.run_module("find", "good.csv", "id = 3", "--columns", "id i65")[0], 2)
+        with open("/dev/full", "wb") as full:
+            for names in (["good.csv"], ["good.csv", "none.csv", "good.csv"]):
+                status, _, told = self.run_module("find", *names, "id = 1", *columns, output=full)
+                self.assertEqual((status, told.splitlines()[-1]), (2, "write failed"))
+
+    def test_index_and_show(self):
+        self.write_several()
+        words = ["index", "good.csv", "bad.csv", "none.csv", "-", "other.csv", "head.csv"]
+        for more in [["--columns", "id i64, city utf8"], ["--rows", "1"], ["--columns", "id i64?, city utf8?", "--lenient", "--bytes", "2"]]:
+            self.see_the_same(*words, *more)
+            ran = subprocess.run([PROGRAM, *words, *more], capture_output=True, cwd=self.folder)
+            wanted = {path.name: path.read_bytes() for path in self.folder.glob("*.zones")}
+            self.assertEqual(self.run_module(*words, *more)[0], ran.returncode)
+            self.assertEqual({path.name: path.read_bytes() for path in self.folder.glob("*.zones")}, wanted)
+        self.see_the_same("index", "head.csv", "--header", "--rows", "1")
+        self.see_the_same("find", "*.csv", "good.csv.zones", "id is null", "--tell", "--numbers")
+        for name in ("good.csv", "head.csv"):
+            shown = subprocess.run([PROGRAM, "show", name], capture_output=True, cwd=self.folder, check=True).stdout
+            wanted = b"".join(line for line in shown.splitlines(True) if not line.startswith(b"  "))
+            self.assertEqual(self.run_module("show", name), (0, wanted, ""))
+        status, _, told = self.run_module("show", "none.csv")
+        self.assertEqual((status, told), (2, "none.csv: there is no index; `python -m doqallin index` makes one\n"))
+        (self.folder / "good.csv").write_bytes(b"1,Oslo\n")
+        status, _, told = self.run_module("find", "good.csv", "id = 1")
+        self.assertEqual((status, told), (2, "good.csv: the file has changed since it was indexed; index it again\n"))
+        (self.folder / "good.csv.zones").write_bytes(b"no index at all")
+        self.assertEqual(self.run_module("find", "good.csv", "id = 1")[0], 2)
 
 
 class OfTables(unittest.TestCase):

@@ -119,6 +119,20 @@ class _File:
         if index.parts.file_length != self.source.length() or changed not in (None, index.parts.changed):
             raise StaleIndex(f"{self.source.name} is not as it was when its index was made: make the index again, or open the file with index=False")
 
+    def is_as_indexed(self) -> bool:
+        """Whether the file is still the one that its index is of."""
+        try:
+            if self.index is not None:
+                self._compare(self.index)
+        except StaleIndex:
+            return False
+        return True
+
+    @property
+    def index_fetched(self) -> int:
+        """How many bytes of the index were read so far."""
+        return 0 if self._index_source is None else self._index_source.fetched
+
     def close(self) -> None:
         self.source.close()
         if self._index_source is not None:
@@ -134,9 +148,13 @@ class _File:
         """Pieces of the file with the records in them that match: bytes, the offset at which they begin, and the records."""
         if self.index is None:
             yield from self._of_whole_file(words)
-            return
-        for zones in _runs(self.index.plan(words, is_count).zones, is_count):
-            first, last = zones[0], zones[-1]
+        else:
+            yield from self.matches_in(self.index.plan(words, is_count).zones, words, is_count)
+
+    def matches_in(self, zones: Iterable[RawZone], words: str, is_count: bool = False) -> Iterator[tuple[bytes, int, list[Match]]]:
+        """The same of the zones of a plan."""
+        for run in _runs(zones, is_count):
+            first, last = run[0], run[-1]
             text = self.source.read(first.place, last.place + last.length - first.place)
             position = Position(first.place, first.number + 1)
             asked = EVERY_ROW if first.way == WHOLE and not is_count else words
@@ -182,12 +200,12 @@ class _File:
             try:
                 taken = maker.add(text, is_end)
             except BadRecord as error:
-                raise self._located(error, text[(error.place or 0) - maker.end :]) from None
+                raise self.located(error, text[(error.place or 0) - maker.end :]) from None
             text = text[taken:]
             if piece or not length:
                 tell(read, length)
 
-    def _located(self, error: BadRecord, text: bytes) -> BadRecord:
+    def located(self, error: BadRecord, text: bytes) -> BadRecord:
         """The error, with the line of the record, which begins this text, and the word that its column does not take."""
         error.line = 1 + self._feeds(error.place or 0)
         place = f"{self.source.name}:{error.line}"
@@ -203,10 +221,14 @@ class _File:
         return sum(self.source.read(place, min(_PIECE, end - place)).count(b"\n") for place in range(0, end, _PIECE))
 
     def count(self, words: str) -> int:
-        known = 0
-        if self.index is not None:
-            known = sum(zone.rows for zone in self.index.plan(words, True).zones if zone.decision == ALL_MATCH)
-        return known + sum(len(found) for _, _, found in self.matches(words, True))
+        if self.index is None:
+            return sum(len(found) for _, _, found in self.matches(words, True))
+        return self.count_in(self.index.plan(words, True).zones, words)
+
+    def count_in(self, zones: Iterable[RawZone], words: str) -> int:
+        """How many rows match in the zones of a plan to count."""
+        known = sum(zone.rows for zone in zones if zone.decision == ALL_MATCH)
+        return known + sum(len(found) for _, _, found in self.matches_in(zones, words, True))
 
 
 def _stamp(file: Any) -> tuple[int, int]:

@@ -57,6 +57,7 @@ class Setup:
     text: bytes
     delimiter: bytes
     is_lenient: bool
+    zone_rows: int
     nulls: frozenset[bytes]
     columns: dict[str, str]
 
@@ -65,9 +66,9 @@ class Setup:
         lines = text.split(b"\n")[:-1]
         nulls = frozenset(line.removeprefix(b"null ") for line in lines if line.startswith(b"null "))
         numbers, *named = [line for line in lines if not line.startswith(b"null ")]
-        delimiter, is_lenient, *_ = map(int, numbers.split(b" "))
+        delimiter, is_lenient, _, zone_rows = map(int, numbers.split(b" "))
         kinds = [line.decode().partition(" ")[::2] for line in named]
-        return cls(text, b"" if delimiter == 255 else bytes([delimiter]), is_lenient == 1, nulls, {name: kind for kind, name in kinds})
+        return cls(text, b"" if delimiter == 255 else bytes([delimiter]), is_lenient == 1, zone_rows, nulls, {name: kind for kind, name in kinds})
 
 
 def _fails(status: int, fault: SearchFault, words: str, setup: Setup | None = None) -> NoReturn:
@@ -121,7 +122,7 @@ class Index:
         status = _library.index_root_length(head, len(head), byref(length), byref(fault))
         if status != GIVEN:
             _fails(status, fault, "")
-        self._root = read(0, length.value)
+        self._root = head + read(HEAD, length.value - HEAD)
         self.parts = IndexParts()
 
         def call(buffer: Any, size: int, count: c_size_t) -> int:
