@@ -381,8 +381,9 @@ uint32_t doqallin_prepare_filter(const uint8_t *words, size_t words_length, cons
 /* What a prepared filter can be on the rows of zones, by their statistics: a byte of `outcomes` for each zone. It is 1 if the
  * filter can be false on a row, plus 2 if it can be unknown, plus 4 if it can be true. A piece is the statistics of one column
  * in one zone, in their stable encoding (docs/STATISTICS.md): piece k is the bytes from offsets[k] to offsets[k + 1]. Pieces come
- * zone by zone, one for each column that the filter was prepared for. An empty piece leaves all open. `depth` is that with
- * which the filter was prepared, or more.
+ * zone by zone, one for each column that the filter was prepared for. An empty piece leaves all open. The piece of a column that
+ * the filter does not name is not looked at: it may be any bytes, and its offsets any numbers. `depth` is that with which the
+ * filter was prepared, or more.
  * GIVEN: each zone has its byte. Under each other status the outcomes may have any bytes, and the first of these comes:
  * BAD_BYTES: the filter is no encoding that nests so deep at most. fault->column is offsets_length, and fault->place its first
  * byte that no such encoding has there, or its length if it ends too early. Or a literal in it is no value of its logical type,
@@ -390,8 +391,9 @@ uint32_t doqallin_prepare_filter(const uint8_t *words, size_t words_length, cons
  * WRONG_LENGTH: there are not as many offsets as pieces, and one more. fault->column is offsets_length.
  * BAD_OFFSETS: an offset of the piece fault->column is below the one before it, or past the end of the statistics.
  * BAD_BYTES: the piece fault->column is no encoding of statistics of its column's kind; fault->place is as above, in the piece. Of
- * the last two the first piece decides.
- * NO_MEMORY: may come in place of each other status. Memory is asked for the filter, and for one zone at a time. */
+ * the last two the first piece decides, of those of columns that the filter names.
+ * NO_MEMORY: may come in place of each other status. Memory is asked for the filter and its columns, and for one zone at a
+ * time. */
 uint32_t doqallin_filter_outcomes(const uint8_t *filter, size_t filter_length, const uint8_t *statistics,
                                   size_t statistics_length, const uint64_t *offsets, size_t offsets_length, size_t depth,
                                   uint8_t *outcomes, size_t outcomes_length, struct doqallin_fault *fault);
