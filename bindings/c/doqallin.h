@@ -403,7 +403,8 @@ uint32_t doqallin_prepare_filter(const uint8_t *words, size_t words_length, cons
  * if the filter can be false for a row, plus 2 if it can be unknown, plus 4 if it can be true. A piece is the
  * statistics of one column in one zone, in their stable encoding (docs/STATISTICS.md): piece k is the bytes from
  * offsets[k] to offsets[k + 1]. Pieces come zone by zone, one for each column that the filter was prepared for. An
- * empty piece excludes nothing. `depth` is that with which the filter was prepared, or more.
+ * empty piece excludes nothing. The piece of a column that the filter does not name is not read: its bytes may be any,
+ * and its offsets any numbers. `depth` is that with which the filter was prepared, or more.
  * GIVEN: each zone has its byte. Under each other status the outcomes may have any bytes, and the first of these comes:
  * BAD_BYTES: the filter is no encoding that nests so deep at most. fault->column is offsets_length. fault->place is the
  * offset of the first byte that no such encoding has there, or the filter's length if it ends too early. Or a literal
@@ -411,9 +412,9 @@ uint32_t doqallin_prepare_filter(const uint8_t *words, size_t words_length, cons
  * WRONG_LENGTH: there are not as many offsets as pieces, and one more. fault->column is offsets_length.
  * BAD_OFFSETS: an offset of the piece fault->column is below the one before it, or past the end of the statistics.
  * BAD_BYTES: the piece fault->column is no encoding of statistics of its column's kind; fault->place is as above, in
- * the piece. Of the last two statuses the first piece decides.
+ * the piece. Of the last two statuses the first piece decides, of those whose columns the filter names.
  * NO_MEMORY: may come in place of each other status, but only if the filter's first byte is 1 or 2. Memory is asked for
- * the filter, and for one zone at a time. */
+ * the filter and its columns, and for one zone at a time. */
 uint32_t doqallin_filter_outcomes(const uint8_t *filter, size_t filter_length, const uint8_t *statistics,
                                   size_t statistics_length, const uint64_t *offsets, size_t offsets_length, size_t depth,
                                   uint8_t *outcomes, size_t outcomes_length, struct doqallin_fault *fault);

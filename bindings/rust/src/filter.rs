@@ -22,7 +22,7 @@ pub enum FilterError {
         /// What is wrong there.
         mistake: Mistake,
     },
-    /// The statistics of this zone are not of the kind of this column.
+    /// The statistics of this zone are not of the kind of this column, which the filter names.
     BadStatistics {
         /// The zone.
         zone: usize,
@@ -167,7 +167,8 @@ impl Filter {
         }
     }
 
-    /// What it can be on the rows of a zone, by the statistics of its columns. One that is missing leaves all open.
+    /// What it can be on the rows of a zone, by the statistics of its columns. One that is missing leaves all open. Those of
+    /// columns that it does not name are not read.
     pub fn outcomes(&self, zone: &[Option<&Statistics>]) -> Result<Outcomes, FilterError> {
         Ok(self.outcomes_of(std::iter::once(zone))?[0])
     }

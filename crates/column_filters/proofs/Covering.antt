@@ -1,4 +1,4 @@
--- The byte of a zone has the truth of each of its rows, whatever the cells of columns without bytes.
+-- The byte of a zone has the truth of each of its rows, whatever the cells of columns of which nothing is known.
 use Rattle.std.proofs.Common.{◌≡◌, ◌≢◌, ℕ, ◌+◌, ◌<◌, ◌⊎◌, inl, inr, Bool, true, false, List, [], ◌∷◌, length, get_or, refl, sym, subst, ◌∙◌, arith, lit<}
 use Rattle.std.proofs.lemmas.Bool.{false≢true}
 use Rattle.std.proofs.lemmas.Option.{same_Some, slice_get-get_or, slice_get_within}
@@ -8,14 +8,16 @@ use Rattle.statistics_bytes.specs.Pieces.{nothing_known}
 use Rattle.vortex_cells.specs.Cells.{Cell, cell_order}
 use Rattle.vortex_statistics.specs.Statistics.{AreRight, Known}
 use Rattle.vortex_cells.proofs.CellLaws.{IsOrder}
-use Rattle.vortex_filter.specs.Formula.{truth}
+use Rattle.vortex_filter.specs.Formula.{Formula, truth}
+use Rattle.vortex_filter.specs.Named.{IsNamed}
 use Rattle.filter_pruning.specs.OutcomeSets.{allows}
 use Rattle.filter_pruning.specs.Outcomes.{outcomes}
 use Rattle.filter_pruning.specs.Pruning.{AreOpen, AreStatisticsOf, column}
 use Rattle.vortex_filter.specs.declared.truth.Truth.{Truth}
 use Rattle.vortex_filter.specs.declared.truth.Truth.TheVariants.{False, Unknown, True}
 use Rattle.filter_pruning.proofs.Soundness.{covered}
-use Rattle.column_filters.specs.Zones.{ArePiecesRight, AreSaid, IsAmong, IsSaid, OutcomesCoverRows, outcomes_byte, piece_at}
+use Rattle.column_filters.proofs.Deciding.{named-or-not}
+use Rattle.column_filters.specs.Zones.{AreKnown, ArePiecesRight, IsAmong, IsSaid, OutcomesCoverRows, outcomes_byte, piece_at}
 
 -- ---- pieces
 
@@ -27,19 +29,27 @@ open-or-bytes : (t : TypeTree) (piece : List ℕ) (s : Known) → SaysNamed t pi
 open-or-bytes t [] s says = inl (subst AreOpen (sym says) open_known)
 open-or-bytes t (b ∷ piece) s says = inr (λ e. absurd cc)
 
-right-or-open : (types : List TypeTree) (bytes offsets : List ℕ) (p : ℕ) (rows : List (List Cell)) (k : ℕ) (s : Known) → ArePiecesRight types bytes offsets p rows → k < length types → IsSaid (get_or types k null_type) bytes offsets (p + k) s
+right-or-open : (f : Formula) (types : List TypeTree) (bytes offsets : List ℕ) (p : ℕ) (rows : List (List Cell)) (k : ℕ) (s : Known) → ArePiecesRight f types bytes offsets p rows → IsNamed f k → k < length types → IsSaid (get_or types k null_type) bytes offsets (p + k) s
     → AreOpen s ⊎ (piece_at bytes offsets (p + k) ≢ []) → AreOpen s ⊎ AreRight s (column k rows)
-right-or-open types bytes offsets p rows k s right inside said (inl open') = inl open'
-right-or-open types bytes offsets p rows k s right inside said (inr some) = inr (right k s inside some said)
+right-or-open f types bytes offsets p rows k s right n inside said (inl open') = inl open'
+right-or-open f types bytes offsets p rows k s right n inside said (inr some) = inr (right k s n inside some said)
 
--- what pieces say is known of the rows
-known_of_rows : (types : List TypeTree) (bytes offsets : List ℕ) (p : ℕ) (rows : List (List Cell)) (ss : List Known) → AreSaid types bytes offsets p (length types) ss → ArePiecesRight types bytes offsets p rows → AreStatisticsOf ss rows
-known_of_rows types bytes offsets p rows ss all right k s got =
-    let here : k < length ss = slice_get_within ss k s got in
-    let inside : k < length types = omega (arith, all.all, here) in
-    let is : get_or ss k nothing_known ≡ s = same_Some (get_or ss k nothing_known) s (sym (slice_get-get_or ss k nothing_known here) ∙ got) in
-    let said : IsSaid (get_or types k null_type) bytes offsets (p + k) s = subst (IsSaid (get_or types k null_type) bytes offsets (p + k)) is (all.each k inside) in
-    right-or-open types bytes offsets p rows k s right inside said (open-or-bytes (get_or types k null_type) (piece_at bytes offsets (p + k)) s said.says)
+-- what is known of a zone is known of its rows
+known_of_rows : (f : Formula) (types : List TypeTree) (bytes offsets : List ℕ) (p : ℕ) (rows : List (List Cell)) (ss : List Known) → AreKnown f types bytes offsets p (length types) ss → ArePiecesRight f types bytes offsets p rows → AreStatisticsOf ss rows
+known_of_rows f types bytes offsets p rows ss all right k s got = by_name (named-or-not f k)
+  where
+    here : k < length ss
+    here = slice_get_within ss k s got
+
+    is : get_or ss k nothing_known ≡ s
+    is = same_Some (get_or ss k nothing_known) s (sym (slice_get-get_or ss k nothing_known here) ∙ got)
+
+    by_name : IsNamed f k ⊎ (¬ (IsNamed f k)) → AreOpen s ⊎ AreRight s (column k rows)
+    by_name (inl n) =
+        let inside : k < length types = omega (arith, all.all, here) in
+        let said : IsSaid (get_or types k null_type) bytes offsets (p + k) s = subst (IsSaid (get_or types k null_type) bytes offsets (p + k)) is (all.said k inside n) in
+        right-or-open f types bytes offsets p rows k s right n inside said (open-or-bytes (get_or types k null_type) (piece_at bytes offsets (p + k)) s said.says)
+    by_name (inr other) = inl (subst AreOpen (sym (sym is ∙ all.others k other)) open_known)
 
 -- ---- the byte
 
@@ -65,5 +75,5 @@ module _ (law : IsOrder cell_order) where
   covers f types bytes offsets p byte outcome rows right row within =
       let ss : List Known = outcome.statistics in
       let o = outcomes f ss in
-      let allowed : allows o (truth f row) ≡ true = covered law f ss rows (known_of_rows types bytes offsets p rows ss outcome.said right) row within in
+      let allowed : allows o (truth f row) ≡ true = covered law f ss rows (known_of_rows f types bytes offsets p rows ss outcome.are_known right) row within in
       subst (λ b. IsAmong b (truth f row)) (sym outcome.is) (among o.may_be_false o.may_be_unknown o.may_be_true (truth f row) allowed)

@@ -1,4 +1,5 @@
 mod ColumnSteps
 mod Covering
+mod Deciding
 mod RowSteps
 mod ZoneSteps

@@ -1,7 +1,9 @@
 -- The statistics of zones in bytes, piece by piece, and what a filter can be by them.
-use Rattle.std.specs.Prelude.{◌≡◌, ◌≢◌, ℕ, ◌+◌, ◌*◌, ◌<◌, ◌≤◌, List, [], length, slice_index, slice_index_or, slice_range, Contains, if◌then◌else◌}
+use Rattle.std.specs.Prelude.{◌≡◌, ◌≢◌, ℕ, ◌+◌, ◌*◌, ◌<◌, ◌≤◌, List, [], Option, Some, None, length, slice_index, slice_index_or, slice_range, Contains, if◌then◌else◌}
 use Rattle.std.specs.Int.{bit_at}
+use Rattle.arrayvec.specs.ArrayVec.{ArrayVec}
 use Rattle.vortex_dtype.specs.TypeTree.{TypeTree, null_type}
+use Rattle.named_statistics.specs.Heads.{head_of}
 use Rattle.named_statistics.specs.Named.{IsBadNamedPiece, SaysNamed}
 use Rattle.statistics_bytes.specs.Pieces.{nothing_known}
 use Rattle.vortex_cells.specs.Cells.{Cell}
@@ -9,6 +11,7 @@ use Rattle.vortex_statistics.specs.Statistics.{AreRight, Known}
 use Rattle.vortex_statistics.specs.declared.error.StatisticsError.{StatisticsError}
 use Rattle.vortex_statistics.specs.declared.error.StatisticsError.TheVariants as refusals
 use Rattle.vortex_filter.specs.Formula.{Formula, truth}
+use Rattle.vortex_filter.specs.Named.{IsNamed}
 use Rattle.filter_pruning.specs.Outcomes.{outcomes}
 use Rattle.filter_pruning.specs.Pruning.{column}
 use Rattle.filter_pruning.specs.declared.outcomes.Outcomes.{Outcomes}
@@ -32,10 +35,30 @@ pub record IsSaid (t : TypeTree) (bytes offsets : List ℕ) (p : ℕ) (s : Known
   pub piece : IsPiece bytes offsets p
   pub says : SaysNamed t (piece_at bytes offsets p) s
 
--- so many pieces, from p on, say these statistics of columns of the types
-pub record AreSaid (types : List TypeTree) (bytes offsets : List ℕ) (p count : ℕ) (said : List Known) : Type 0 where
-  pub all : length said ≡ count
-  pub each : (k : ℕ) → k < count → IsSaid (slice_index_or types k null_type) bytes offsets (p + k) (slice_index_or said k nothing_known)
+-- of so many pieces, from p on, each of a column that the formula names says these statistics of the column
+abbrev pub AreSaid : Formula → List TypeTree → List ℕ → List ℕ → ℕ → ℕ → List Known → Type 0
+AreSaid f types bytes offsets p count statistics = (k : ℕ) → k < count → IsNamed f k → IsSaid (slice_index_or types k null_type) bytes offsets (p + k) (slice_index_or statistics k nothing_known)
+
+-- nothing is known of a column that the formula does not name
+abbrev pub AreOthersOpen : Formula → List Known → Type 0
+AreOthersOpen f statistics = (k : ℕ) → ¬ (IsNamed f k) → slice_index_or statistics k nothing_known ≡ nothing_known
+
+-- What is known of so many columns of a zone, whose pieces are those from p on: what the piece of each column that the
+-- formula names says, and nothing of the others, whatever their pieces are.
+pub record AreKnown (f : Formula) (types : List TypeTree) (bytes offsets : List ℕ) (p count : ℕ) (statistics : List Known) : Type 0 where
+  pub all : length statistics ≡ count
+  pub said : AreSaid f types bytes offsets p count statistics
+  pub others : AreOthersOpen f statistics
+
+-- what stands before the statistics of the column at place k, if the formula names the column
+abbrev pub IsHeadAt : Formula → List TypeTree → ℕ → Option (ArrayVec ℕ) → Type 0
+IsHeadAt f types k None = ¬ (IsNamed f k)
+IsHeadAt f types k (Some head) = IsNamed f k × (head.items ≡ head_of (slice_index_or types k null_type))
+
+-- the same of each column
+pub record AreHeads (f : Formula) (types : List TypeTree) (heads : List (Option (ArrayVec ℕ))) : Type 0 where
+  pub all : length heads ≡ length types
+  pub each : (k : ℕ) → k < length types → IsHeadAt f types k (slice_index_or heads k None)
 
 -- ---- outcomes
 
@@ -46,7 +69,7 @@ outcomes_byte o = (if o.may_be_false then 1 else 0) + (if o.may_be_unknown then 
 -- the byte says what the formula can be on the rows of a zone, of whose columns the pieces from p on speak
 pub record IsOutcome (f : Formula) (types : List TypeTree) (bytes offsets : List ℕ) (p byte : ℕ) : Type 0 where
   pub statistics : List Known
-  pub said : AreSaid types bytes offsets p (length types) statistics
+  pub are_known : AreKnown f types bytes offsets p (length types) statistics
   pub is : byte ≡ outcomes_byte (outcomes f statistics)
 
 -- as many offsets as pieces, and one more
@@ -75,39 +98,38 @@ IsBadAt t bytes offsets p (BadOffsets piece) = (piece ≡ p) × ¬ (IsPiece byte
 IsBadAt t bytes offsets p (BadBytes piece place) = (piece ≡ p) × IsPiece bytes offsets p × IsBadNamedPiece t (piece_at bytes offsets p) (refusals.BadBytes place)
 IsBadAt t bytes offsets p (HasVariant piece) = (piece ≡ p) × IsPiece bytes offsets p × IsBadNamedPiece t (piece_at bytes offsets p) refusals.HasVariant
 
--- each of so many pieces, from p on, says something
-abbrev pub AreSaidBefore : List TypeTree → List ℕ → List ℕ → ℕ → ℕ → Type 0
-AreSaidBefore types bytes offsets p count = (k : ℕ) → k < count → (s : Known) × IsSaid (slice_index_or types k null_type) bytes offsets (p + k) s
+-- of so many pieces, from p on, each of a column that the formula names says something
+abbrev pub AreSaidBefore : Formula → List TypeTree → List ℕ → List ℕ → ℕ → ℕ → Type 0
+AreSaidBefore f types bytes offsets p count = (k : ℕ) → k < count → IsNamed f k → (s : Known) × IsSaid (slice_index_or types k null_type) bytes offsets (p + k) s
 
--- the first of the pieces from p on that says nothing of its column
-pub record IsBadZone (types : List TypeTree) (bytes offsets : List ℕ) (p : ℕ) (e : ZoneError) : Type 0 where
+-- why a zone is refused, whose pieces are those from p on: the first of a named column that says nothing of it
+pub record RefusesZone (f : Formula) (types : List TypeTree) (bytes offsets : List ℕ) (p : ℕ) (e : ZoneError) : Type 0 where
   pub column : ℕ
   pub within : column < length types
-  pub before : AreSaidBefore types bytes offsets p column
+  pub is_named : IsNamed f column
+  pub before : AreSaidBefore f types bytes offsets p column
   pub cause : IsBadAt (slice_index_or types column null_type) bytes offsets (p + column) e
 
--- why a zone is refused, of whose columns the pieces from p on are to speak
-abbrev pub RefusesZone : List TypeTree → List ℕ → List ℕ → ℕ → ZoneError → Type 0
-RefusesZone types bytes offsets p e = IsBadZone types bytes offsets p e
-
 -- the first zone that is refused
-pub record IsBadOfZones (types : List TypeTree) (bytes offsets : List ℕ) (zones : ℕ) (e : ZoneError) : Type 0 where
+pub record IsBadOfZones (f : Formula) (types : List TypeTree) (bytes offsets : List ℕ) (zones : ℕ) (e : ZoneError) : Type 0 where
   pub zone : ℕ
   pub within : zone < zones
-  pub before : (z : ℕ) → z < zone → AreSaidBefore types bytes offsets (z * length types) (length types)
-  pub cause : RefusesZone types bytes offsets (zone * length types) e
+  pub before : (z : ℕ) → z < zone → AreSaidBefore f types bytes offsets (z * length types) (length types)
+  pub cause : RefusesZone f types bytes offsets (zone * length types) e
 
--- why so many zones are refused. Memory is asked for a place for each column, if there are enough pieces, and then by a piece.
-abbrev pub RefusesZones : List TypeTree → List ℕ → List ℕ → ℕ → ZoneError → Type 0
-RefusesZones types bytes offsets zones OutOfMemory = AreEnough zones (length types) (length offsets)
-RefusesZones types bytes offsets zones WrongLength = ¬ (AreEnough zones (length types) (length offsets))
-RefusesZones types bytes offsets zones e = AreEnough zones (length types) (length offsets) × IsBadOfZones types bytes offsets zones e
+-- why so many zones are refused. Memory is asked for each column, if there are enough pieces, and then by a piece.
+abbrev pub RefusesZones : Formula → List TypeTree → List ℕ → List ℕ → ℕ → ZoneError → Type 0
+RefusesZones f types bytes offsets zones OutOfMemory = AreEnough zones (length types) (length offsets)
+RefusesZones f types bytes offsets zones WrongLength = ¬ (AreEnough zones (length types) (length offsets))
+RefusesZones f types bytes offsets zones e = AreEnough zones (length types) (length offsets) × IsBadOfZones f types bytes offsets zones e
 
 -- ---- what the byte of a zone promises
 
--- what the pieces from p on say is right for the rows of a zone; of a column without bytes they say nothing
-abbrev pub ArePiecesRight : List TypeTree → List ℕ → List ℕ → ℕ → List (List Cell) → Type 0
-ArePiecesRight types bytes offsets p rows = (k : ℕ) (s : Known) → k < length types → piece_at bytes offsets (p + k) ≢ [] → IsSaid (slice_index_or types k null_type) bytes offsets (p + k) s → AreRight s (column k rows)
+-- What the pieces from p on say is right for the rows of a zone, as far as the formula names their columns. A piece
+-- without bytes says nothing.
+abbrev pub ArePiecesRight : Formula → List TypeTree → List ℕ → List ℕ → ℕ → List (List Cell) → Type 0
+ArePiecesRight f types bytes offsets p rows =
+    (k : ℕ) (s : Known) → IsNamed f k → k < length types → piece_at bytes offsets (p + k) ≢ [] → IsSaid (slice_index_or types k null_type) bytes offsets (p + k) s → AreRight s (column k rows)
 
 -- the truth is one of those in the byte
 abbrev pub IsAmong : ℕ → Truth → Type 0
@@ -115,8 +137,14 @@ IsAmong byte False = bit_at byte 0 ≡ 1
 IsAmong byte Unknown = bit_at byte 1 ≡ 1
 IsAmong byte True = bit_at byte 2 ≡ 1
 
--- If what the pieces say is right for the rows of a zone, the truth of each row is among those in the zone's byte, whatever the
--- cells of columns without bytes.
+-- Let what the pieces of the named columns say be right for the rows of a zone. Then the truth of each row is among those
+-- in the zone's byte, whatever the cells of columns without bytes, and whatever the pieces of other columns.
 abbrev pub OutcomesCoverRows : Type 0
 OutcomesCoverRows = (f : Formula) (types : List TypeTree) (bytes offsets : List ℕ) (p byte : ℕ) → IsOutcome f types bytes offsets p byte
-    → (rows : List (List Cell)) → ArePiecesRight types bytes offsets p rows → (row : List Cell) → Contains rows row → IsAmong byte (truth f row)
+    → (rows : List (List Cell)) → ArePiecesRight f types bytes offsets p rows → (row : List Cell) → Contains rows row → IsAmong byte (truth f row)
+
+-- The byte of a zone is that of all statistics that its pieces say of the named columns, whatever they say of the
+-- others.
+abbrev pub NamedPiecesDecide : Type 0
+NamedPiecesDecide = (f : Formula) (types : List TypeTree) (bytes offsets : List ℕ) (p byte : ℕ) → IsOutcome f types bytes offsets p byte
+    → (statistics : List Known) → length statistics ≡ length types → AreSaid f types bytes offsets p (length types) statistics → byte ≡ outcomes_byte (outcomes f statistics)

@@ -7,6 +7,7 @@
 mod errors;
 pub mod laws;
 mod masks;
+mod naming;
 mod tables;
 mod zones;
 

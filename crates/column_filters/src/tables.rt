@@ -1,12 +1,13 @@
 //! The columns of which a filter is asked.
 
-ghost use Rattle.std.specs.Prelude.{◌≡◌, ◌↔◌, IfErr, IfOk, IsTrue, OnOk, false, length, map, replicate};
-ghost use Rattle.std.specs.Prelude.{slice_index_or, true};
-ghost use Rattle.column_filters.specs.Words.{AreColumnsOf, AreMarked, AreReadFrom, IsErrorAt, IsReadFrom, IsReadIf};
+ghost use Rattle.std.specs.Prelude.{◌≡◌, ◌↔◌, IfErr, IfOk, IsTrue, OnOk, length, map};
+ghost use Rattle.std.specs.Prelude.{true};
+ghost use Rattle.column_filters.specs.Words.{AreColumnsOf, AreReadFrom, IsErrorAt, IsReadFrom, IsReadIf};
 ghost use Rattle.column_filters.specs.Words.{IsTableError, Same};
 ghost use Rattle.column_filters.specs.Words.{OutOfMemory, formula, type_of, type_of_rows};
 
 use crate::errors::MaskError;
+use crate::naming::{is_set, named_columns};
 use arrow_columns::{Column, Rows};
 use column_cells::{dtype_of_rows, row_count, rows_of};
 use std::alloc::Global;
@@ -70,28 +71,6 @@ fn read_if_named<'a>(
         read_column(alloc, place, column, dtype, count)
     } else {
         Ok(Rows::Nulls(count))
-    }
-}
-
-/// Whether a filter names a column, for each of so many.
-fn named_columns(alloc: Global, filter: &Filter, count: usize) -> Result<Vec<bool>, MaskError>
-    ensures named { IfOk result
-        (λ named. AreMarked (formula filter.now) (replicate count false) named.items) }
-    ensures refused { IfErr result (λ e. e ≡ OutOfMemory) }
-{
-    let mut named = vec![in alloc; false; count]?;
-    filter.mark_columns(&mut named);
-    Ok(named)
-}
-
-/// Whether the flag of a column is set.
-fn is_set(flags: &[bool], place: usize) -> bool
-    ensures { result ≡ slice_index_or flags.now place false }
-{
-    if place < flags.len() {
-        flags[place]
-    } else {
-        false
     }
 }
 

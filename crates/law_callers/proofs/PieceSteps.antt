@@ -44,8 +44,8 @@ said : (t : TypeTree) (bytes : List ℕ) (s : Known) → bytes ≢ [] → SaysNa
 said t [] s some h = absurd (some refl)
 said t (b ∷ bs) s some h = record { of_type = h.0; is = h.1 }
 
-pub pieces_right : EncodingsStayRight → (types : List TypeTree) (bytes offsets : List ℕ) (p : ℕ) (rows : List (List Cell)) → AreWrittenRight types bytes offsets p rows → ArePiecesRight types bytes offsets p rows
-pieces_right law types bytes offsets p rows right k s within some is =
+pub pieces_right : EncodingsStayRight → (f : Formula) (types : List TypeTree) (bytes offsets : List ℕ) (p : ℕ) (rows : List (List Cell)) → AreWrittenRight types bytes offsets p rows → ArePiecesRight f types bytes offsets p rows
+pieces_right law f types bytes offsets p rows right k s named within some is =
     law.read (get_or types k null_type) (piece_at bytes offsets (p + k)) (column k rows) s (right k within) (said (get_or types k null_type) (piece_at bytes offsets (p + k)) s some is.says)
 
 -- ---- rows of one column

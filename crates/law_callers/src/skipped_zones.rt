@@ -15,12 +15,12 @@ ghost use Rattle.law_callers.specs.Pieces.{AreEven, ArePiecesOf, AreWrittenRight
 use column_filters::laws::outcomes_cover_rows;
 use column_statistics::laws::encodings_stay_right;
 
-/// Whether a zone can be skipped, of which a filter has this byte of outcomes. If what the pieces say
-/// is right for the rows of the zone, then the filter matches none of them.
+/// Whether a zone can be skipped, of which a filter has this byte of outcomes. If what the pieces of the
+/// columns that it names say is right for the rows of the zone, then the filter matches none of them.
 pub fn can_be_skipped(byte: u8) -> bool
     ensures { (f : Formula) (types : List TypeTree) (bytes offsets : List ℕ) (p : ℕ)
         → IsOutcome f types bytes offsets p byte
-        → (rows : List (List Cell)) → ArePiecesRight types bytes offsets p rows
+        → (rows : List (List Cell)) → ArePiecesRight f types bytes offsets p rows
         → (row : List Cell) → Contains rows row → result ≡ true → is_match f row ≡ false }
 {
     outcomes_cover_rows();

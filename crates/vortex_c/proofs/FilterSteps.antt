@@ -48,8 +48,8 @@ pub outcomes-given : (n : ℕ) (bytes statistics offsets outcomes : List ℕ) (q
 outcomes-given n bytes statistics offsets outcomes q given same is_encoding are =
     record { filter = prepared q; is_encoding = is_encoding; are_outcomes = subst (λ ts. AreOutcomes (formula q.filter) (map type_of ts) statistics offsets outcomes) same are }
 
-pub no-outcomes : (n : ℕ) (bytes statistics offsets : List ℕ) (count : ℕ) (q : PreparedFilter) (given : List DType) (e : ZoneError) → given ≡ q.columns.items → IsEncodingOf n bytes (prepared q) → RefusesZones (map type_of given) statistics offsets count e → IsZonesError n bytes statistics offsets count (zones.NoOutcomes e)
-no-outcomes n bytes statistics offsets count q given e same is_encoding fault = (prepared q, is_encoding, subst (λ ts. RefusesZones (map type_of ts) statistics offsets count e) same fault)
+pub no-outcomes : (n : ℕ) (bytes statistics offsets : List ℕ) (count : ℕ) (q : PreparedFilter) (given : List DType) (e : ZoneError) → given ≡ q.columns.items → IsEncodingOf n bytes (prepared q) → RefusesZones (formula q.filter) (map type_of given) statistics offsets count e → IsZonesError n bytes statistics offsets count (zones.NoOutcomes e)
+no-outcomes n bytes statistics offsets count q given e same is_encoding fault = (prepared q, is_encoding, subst (λ ts. RefusesZones (formula q.filter) (map type_of ts) statistics offsets count e) same fault)
 
 -- filters of words
 

@@ -105,7 +105,7 @@ pub record AreFilterOutcomes (n : ℕ) (bytes statistics offsets outcomes : List
 -- why there are no outcomes of so many zones
 abbrev pub IsZonesError : ℕ → List ℕ → List ℕ → List ℕ → ℕ → ZonesError → Type 0
 IsZonesError n bytes statistics offsets count (zones.Unread cause) = IsUnread n bytes cause
-IsZonesError n bytes statistics offsets count (zones.NoOutcomes cause) = (p : Prepared) × IsEncodingOf n bytes p × RefusesZones p.types statistics offsets count cause
+IsZonesError n bytes statistics offsets count (zones.NoOutcomes cause) = (p : Prepared) × IsEncodingOf n bytes p × RefusesZones p.filter p.types statistics offsets count cause
 
 abbrev pub status_of_piece : ZoneError → ℕ
 status_of_piece zone.OutOfMemory = NO_MEMORY

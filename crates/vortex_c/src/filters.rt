@@ -136,8 +136,9 @@ fn mask_by(
 ///
 /// A piece is the stable encoding of the statistics of one column in one zone, from its offset to
 /// the next one. Pieces stand zone by zone, one for each column that the filter was prepared for.
-/// An empty piece leaves all cells open. Memory is asked for the filter, and for the bounds of a
-/// zone.
+/// An empty piece leaves all cells open. The piece of a column that the filter does not name is not
+/// looked at, whatever its offsets and its bytes are. Memory is asked for the filter and its columns,
+/// and for the bounds of a zone.
 ///
 /// `depth` is how deep the words might nest that the filter was prepared from: `2 * depth + 5`
 /// connectives may nest in the encoding. After another status than `GIVEN` the outcomes may be any bytes.
