@@ -582,10 +582,12 @@ struct doqallin_position {
  * GIVEN: the first *count of `found` are the records that match, in order; those after them are as they were. *position is where
  * the first record begins that was not judged: behind the text, if all were. Else there is no room for it in `found`, and it
  * matches; or it is the last one, and not is_end. Give the text from there again, with more room or with what follows.
- * REFUSED: this is the first record that has fields that are no row. `found` may have any.
+ * REFUSED: *position is where the first record begins that has fields that are no row. The first *count of `found` are the
+ * records before it that match; those after them are as they were.
  * BAD_BYTES, NOT_UTF8, BAD_FILTER: of the words, the setup and the filter, the first that is wrong.
- * NO_MEMORY: may come in place of each but NOT_UTF8. Memory is asked for the filter and a row, and none for each record found.
- * Under each status but GIVEN, *count and *position are as they were. */
+ * NO_MEMORY: may come in place of each but NOT_UTF8. Memory is asked for the filter and a row, and none for each record found. The
+ * first of `found` may be records that match; those after them are as they were.
+ * Under each status but GIVEN and REFUSED, *count and *position are as they were. */
 uint32_t doqallin_search_records(const uint8_t *setup, size_t setup_length, const uint8_t *words, size_t words_length, size_t depth,
                                  const uint8_t *text, size_t text_length, bool is_end, struct doqallin_position *position,
                                  struct doqallin_found *found, size_t found_length, size_t *count,

@@ -140,11 +140,17 @@ static void records(void) {
     CHECK(records_of("true", "1,a\n2,\"b\n", false, MOST) == DOQALLIN_GIVEN && count == 1 && position.place == 4);
     CHECK(records_of("true", "2,\"b\nc\"", true, MOST) == DOQALLIN_GIVEN && count == 1 && found[0].length == 7 && position.place == 11);
     CHECK(records_of("word like '%a%'", "", true, MOST) == DOQALLIN_GIVEN && count == 0 && position.place == 11);
+    position = (struct doqallin_position){.place = 11, .number = 3};
+    memset(found, 77, sizeof found);
+    CHECK(records_of("n > 1", "5,a\n1,b\n6,c\nx,b\n7,d\n", true, MOST) == DOQALLIN_REFUSED && fault.place == 23 && fault.reason == DOQALLIN_REFUSED_FIELD && fault.column == 0);
+    CHECK(count == 2 && found[0].place == 11 && found[0].number == 3 && found[1].place == 19 && found[1].length == 4 && found[1].number == 5);
+    CHECK(position.place == 23 && position.number == 6 && !memcmp(found + 2, found + 3, sizeof *found));
+    CHECK(records_of("n > 1", "5,a,b\n", true, MOST) == DOQALLIN_REFUSED && fault.place == 23 && fault.reason == DOQALLIN_REFUSED_FIELD_COUNT && count == 0);
+    // What may be cut is not refused, and what finds no room comes before what is refused.
+    CHECK(records_of("n > 1", "5,a\nx", false, 0) == DOQALLIN_GIVEN && count == 0 && position.place == 23);
+    CHECK(records_of("n > 1", "5,a\nx", false, 1) == DOQALLIN_GIVEN && count == 1 && position.place == 27 && position.number == 7);
     count = 77;
-    CHECK(records_of("n > 1", "5,a\nx,b\n", true, MOST) == DOQALLIN_REFUSED && fault.place == 15 && fault.reason == DOQALLIN_REFUSED_FIELD && fault.column == 0);
-    CHECK(count == 77 && position.place == 11);
-    CHECK(records_of("n > 1", "5,a,b\n", true, MOST) == DOQALLIN_REFUSED && fault.place == 11 && fault.reason == DOQALLIN_REFUSED_FIELD_COUNT);
-    CHECK(records_of("n >", "5,a\n", true, MOST) == DOQALLIN_BAD_FILTER && fault.place == 3);
+    CHECK(records_of("n >", "5,a\n", true, MOST) == DOQALLIN_BAD_FILTER && fault.place == 3 && count == 77 && position.place == 27);
     CHECK(records_of("n > 1 or word = '\xff'", "5,a\n", true, MOST) == DOQALLIN_NOT_UTF8);
     setup_length--;
     CHECK(records_of("n > 1", "5,a\n", true, MOST) == DOQALLIN_BAD_BYTES && fault.column == DOQALLIN_PART_SETUP);

@@ -174,6 +174,13 @@ class OfOneFile(InAFolder):
         self.assertEqual((bad.exception.place, bad.exception.column), (8, "n"))
         with self.assertRaises(BadRecord):
             doqallin.open(io.BytesIO(b"1,a\n2\n"), columns={"n": "i64", "word": "utf8"}).count()
+        # The records before one that is refused are given.
+        for many in (3, 5000):
+            found, given = [], doqallin.open(io.BytesIO(b"1,a\n" + b"2,b\n" * many + b"x,c\n3,d\n"), columns={"n": "i64", "word": "utf8"})
+            with self.assertRaises(BadRecord) as bad:
+                for record in given.records("n > 1"):
+                    found.append(record)
+            self.assertEqual((found, bad.exception.place), ([b"2,b\n"] * many, 4 + 4 * many))
         index = self.folder / "trips.csv.zones"
         whole = index.read_bytes()
         for damaged in (b"", whole[:20], b"x" + whole[1:], whole[:100] + bytes([whole[100] ^ 1]) + whole[101:]):

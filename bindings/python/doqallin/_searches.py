@@ -185,7 +185,9 @@ class Match(NamedTuple):
 
 
 def matching(setup: Setup, words: str, text: bytes, position: Position, is_end: bool) -> Iterator[list[Match]]:
-    """The records of a text that match, some at a time; the position goes on to the first record that was not judged."""
+    """The records of a text that match, some at a time; the position goes on to the first record that was not judged.
+
+    BadRecord comes behind the records that match before that one."""
     asked, first, fault, count = encoded(words), position.place, SearchFault(), c_size_t()
     found = (Found * _FOUND)()
     while True:
@@ -196,9 +198,9 @@ def matching(setup: Setup, words: str, text: bytes, position: Position, is_end: 
         )
         if status == BAD_BYTES:
             raise BadBytes(f"no setup: {setup.text.decode(errors='replace')!r}")
+        if status in (GIVEN, REFUSED) and count.value:
+            yield [Match(one.place, one.length, one.number) for one in found[: count.value]]
         if status != GIVEN:
             _fails(status, fault, words, setup)
-        if count.value:
-            yield [Match(one.place, one.length, one.number) for one in found[: count.value]]
         if count.value < _FOUND or position.place == before:
             return

@@ -469,7 +469,7 @@ impl<R: Read + Seek> Search<R> {
         Ok(zones.iter().map(zone).collect())
     }
 
-    /// Gives each record that matches, in the file's order.
+    /// Gives each record that matches, in the file's order. `BadRecord` comes behind those before that record.
     pub fn each(
         &mut self,
         filter: &str,
@@ -605,7 +605,7 @@ fn judge(
             )
         };
         match status {
-            raw::GIVEN => {}
+            raw::GIVEN | raw::REFUSED => {}
             raw::BAD_BYTES => return Err(SearchError::BadReading),
             _ => return Err(refusal(status, &fault)),
         }
@@ -617,6 +617,9 @@ fn judge(
                 offset: one.place,
                 number: one.number,
             });
+        }
+        if status == raw::REFUSED {
+            return Err(refusal(status, &fault));
         }
         if count < FOUND {
             return Ok(());

@@ -68,3 +68,23 @@ fn beside_a_file() -> Result<(), SearchError> {
     fs::remove_dir_all(&folder)?;
     Ok(())
 }
+
+#[test]
+fn records_before_one_that_is_refused() -> Result<(), SearchError> {
+    let reading = Reading {
+        columns: &[("n", "i64"), ("word", "utf8")],
+        ..Reading::default()
+    };
+    let mut files = Search::guessed(Cursor::new("1,a\n2,b\nx,c\n3,d\n"), &reading)?;
+    let mut found = Vec::new();
+    let refused = files.each("n > 1", |record| found.push((record.offset, record.number)));
+    assert_eq!(found, [(4, 2)]);
+    assert!(matches!(
+        refused,
+        Err(SearchError::BadRecord {
+            offset: 8,
+            column: Some(0)
+        })
+    ));
+    Ok(())
+}

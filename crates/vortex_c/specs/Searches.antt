@@ -9,15 +9,18 @@ use Rattle.zone_index.specs.EncodingReading.{root_at}
 use Rattle.zone_index.specs.Errors.{IfRefused, IsOfRecord, TellsOffset, TellsOneOf, before_refused}
 use Rattle.zone_index.specs.declared.encoding.EncodingError.{EncodingError}
 use Rattle.zone_index.specs.declared.encoding.EncodingError.TheVariants.{Short}
+use Rattle.zone_index.specs.declared.errors.Refusal.{Refusal}
 use Rattle.zone_index.specs.declared.errors.SearchError.{SearchError}
+use Rattle.zone_index.specs.declared.errors.SearchError.TheVariants.{Memory, Refused}
 use Rattle.zone_index.specs.declared.records.Decision.{Decision}
 use Rattle.zone_index.specs.declared.records.Decision.TheVariants.{AllMatch, NoneMatch, Unknown}
 use Rattle.zone_index.specs.declared.zones.Position.{Position}
 use Rattle.zone_index.specs.declared.zones.Way.{Way}
 use Rattle.zone_index.specs.declared.zones.Way.TheVariants.{Copy, Search, Skip}
-use Rattle.zone_scans.specs.Found.{IsSearched}
+use Rattle.zone_scans.specs.Found.{IsFoundBefore, IsSearched}
 use Rattle.zone_scans.specs.Roots.{BeginsAsIndex}
 use Rattle.zone_scans.specs.declared.finding.FoundRecord.{FoundRecord}
+use Rattle.zone_scans.specs.declared.finding.Searched.{Searched}
 use Rattle.zone_scans.specs.declared.planning.PlannedZone.{PlannedZone}
 use Rattle.zone_scans.specs.declared.planning.Purpose.{Purpose}
 use Rattle.zone_scans.specs.declared.planning.Purpose.TheVariants.{Count, Find}
@@ -33,6 +36,7 @@ use Rattle.vortex_c.specs.declared.search_faults.SearchFault.{SearchFault}
 use Rattle.vortex_c.specs.declared.searches.IndexParts.{IndexParts}
 use Rattle.vortex_c.specs.declared.searches.RecordPosition.{RecordPosition}
 use Rattle.vortex_c.specs.declared.searches.ZoneParts.{ZoneParts}
+use Rattle.vortex_c.specs.declared.status.TheConstants.{GIVEN, REFUSED}
 
 -- ---- roots
 
@@ -101,10 +105,14 @@ SaysWhyNoPlan depth bytes blocks words purpose before after status = (cause : Pl
 abbrev pub start_of : RecordPosition → Position
 start_of p = record { place = p.place; number = p.number }
 
--- so many records were found of a text, and here the first one stands that was not judged
+-- so many records were found, and here the first one stands that was not judged
+abbrev pub searched_at : ℕ → RecordPosition → Searched
+searched_at count next = record { count = count; next = start_of next }
+
+-- the same of a text
 abbrev pub IsFoundIn : Schema → Formula → RecordPosition → List ℕ → Bool → List FoundRecord → ℕ → RecordPosition → Type 0
 IsFoundIn schema f before text is_end found count after =
-    IsSearched schema.delimiter.byte (matches_record schema f) (is_refused schema) (start_of before) text is_end found (record { count = count; next = start_of after })
+    IsSearched schema.delimiter.byte (matches_record schema f) (is_refused schema) (start_of before) text is_end found (searched_at count after)
 
 -- the records are those on whose row the filter is true that the words are
 pub record AreFoundBy (depth : ℕ) (setup words : List ℕ) (before : RecordPosition) (text : List ℕ) (is_end : Bool) (found : List FoundRecord) (count : ℕ) (after : RecordPosition) : Type 0 where
@@ -112,6 +120,31 @@ pub record AreFoundBy (depth : ℕ) (setup words : List ℕ) (before : RecordPos
   pub f : Formula
   pub sought : IsSought depth setup words schema f
   pub found_in : IsFoundIn schema f before text is_end found count after
+
+-- how many were found is told: all up to this place, or those before a record that is refused
+abbrev pub TellsFound : ℕ → Type 0
+TellsFound status = (status ≡ GIVEN) ⊎ (status ≡ REFUSED)
+
+-- so many records were found of a text before a fault, and nothing else was written
+abbrev pub IsPartIn : Schema → Formula → RecordPosition → List ℕ → Bool → List FoundRecord → List FoundRecord → Searched → SearchError → Type 0
+IsPartIn schema f before text is_end old new searched fault =
+    IsFoundBefore schema.delimiter.byte (matches_record schema f) (is_refused schema) (start_of before) text is_end old new searched fault
+
+-- so many records match, by the filter that the words are, before the first one that is refused, and here that one begins
+pub record AreFoundBefore (depth : ℕ) (setup words : List ℕ) (before : RecordPosition) (text : List ℕ) (is_end : Bool) (old new : List FoundRecord) (count : ℕ) (after : RecordPosition) : Type 0 where
+  pub schema : Schema
+  pub f : Formula
+  pub sought : IsSought depth setup words schema f
+  pub refusal : Refusal
+  pub part : IsPartIn schema f before text is_end old new (searched_at count after) (Refused refusal)
+
+-- some were found before memory ran out
+pub record AreSomeFound (depth : ℕ) (setup words : List ℕ) (before : RecordPosition) (text : List ℕ) (is_end : Bool) (old new : List FoundRecord) : Type 0 where
+  pub schema : Schema
+  pub f : Formula
+  pub sought : IsSought depth setup words schema f
+  pub searched : Searched
+  pub part : IsPartIn schema f before text is_end old new searched Memory
 
 -- memory ran out, or this is the first record that is refused
 pub record IsRefusal (schema : Schema) (place : ℕ) (text : List ℕ) (cause : SearchError) : Type 0 where

@@ -1,19 +1,24 @@
 //! Searches in files: what to read of an index and of a file, and which records match.
 
 ghost use Rattle.std.specs.Prelude.{◌≡◌, ◌≢◌, ◌<◌, ◌≤◌, ◌⊎◌, List, drop, length, map, take};
-ghost use Rattle.vortex_c.specs.SearchWords.{AnswersEncoding, AreBlocksFor, AreFoundBy, ByteRange, HasAnswer};
-ghost use Rattle.vortex_c.specs.SearchWords.{IsPartsOf, IsRootLength, IsSetupOfRoot, IsToldPlan, SaysWhyNoBlocks};
+ghost use Rattle.vortex_c.specs.SearchWords.{AnswersEncoding, AreBlocksFor, AreFoundBefore, AreFoundBy, AreSomeFound};
+ghost use Rattle.vortex_c.specs.SearchWords.{ByteRange, HasAnswer, IsFoundIn, IsPartIn, IsPartsOf, IsRootLength};
+ghost use Rattle.vortex_c.specs.SearchWords.{IsSetupOfRoot, IsToldPlan, Memory, Refusal, Refused, SaysWhyNoBlocks};
 ghost use Rattle.vortex_c.specs.SearchWords.{SaysWhyNoPlan, SaysWhyNoRoot, SaysWhyNotFound, SaysWhyNotRead};
-ghost use Rattle.vortex_c.specs.SearchWords.{IsFoundIn, SaysWhyRefused, ZoneParts, formula, index_parts};
-ghost use Rattle.vortex_c.specs.SearchWords.{purpose_of, root_value, zone_parts};
+ghost use Rattle.vortex_c.specs.SearchWords.{SaysWhyRefused, TellsFound, ZoneParts, formula, index_parts};
+ghost use Rattle.vortex_c.specs.SearchWords.{purpose_of, root_value, searched_at, zone_parts};
 
 use crate::giving::give;
 use crate::search_faults::{SearchFault, tell_plan, tell_root, tell_search, tell_sought};
-use crate::status::{BUFFER_TOO_SMALL, GIVEN};
-use file_search::{Plan, Sought, blocks_to_read, find_rows_in, plan_by_bytes, read_index_root};
+use crate::status::{BUFFER_TOO_SMALL, GIVEN, NO_MEMORY, REFUSED};
+use file_search::{
+    Plan, Sought, blocks_to_read, find_rows_until_fault, plan_by_bytes, read_index_root,
+};
 use std::alloc::Global;
 use zone_index::{Decision, Position, Root, Way};
-use zone_scans::{ByteRange, FoundRecord, PlannedZone, Purpose, root_length};
+use zone_scans::{
+    ByteRange, FoundRecord, PlannedZone, Purpose, Searched, SearchedUntilFault, root_length,
+};
 
 /// What the root of an index says, but for its setup.
 #[derive(Clone, Copy)]
@@ -298,8 +303,8 @@ fn zone_parts(zone: PlannedZone) -> ZoneParts
 /// text, without `is_end`, its last record is left, since it may be cut.
 ///
 /// - `BAD_BYTES`: the setup is none. `NOT_UTF8`, `BAD_FILTER`: of the words. `fault` says where.
-/// - `REFUSED`: a record that was met has fields that are no row, and `fault` says which. Then the records
-///   that are found may be any.
+/// - `REFUSED`: a record that was met has fields that are no row, and `fault` says which. The records that are
+///   found before it are told as under `GIVEN`, and the position goes on to it.
 /// - `NO_MEMORY`: `fault` is not written.
 #[unsafe(no_mangle)]
 pub extern "C" fn doqallin_search_records(
@@ -316,13 +321,21 @@ pub extern "C" fn doqallin_search_records(
 ) -> u32
     ensures given { result ≡ GIVEN → AreFoundBy depth setup.now words.now position.old text.now is_end
         found.new count.new position.new }
-    ensures within { result ≡ GIVEN → count.new ≤ length found.new }
+    ensures within { TellsFound result → count.new ≤ length found.new }
     ensures refused { result ≢ GIVEN → SaysWhyNotFound depth setup.now words.now position.old text.now
         fault.old fault.new result }
 
+    // Of those before a record that is refused, each is told that matches, and here it begins.
+    ensures part { result ≡ REFUSED → AreFoundBefore depth setup.now words.now position.old text.now is_end
+        found.old found.new count.new position.new }
+    ensures place { result ≡ REFUSED → fault.new.place ≡ position.new.place }
+    ensures some { result ≡ NO_MEMORY → (found.new ≡ found.old) ⊎ AreSomeFound depth setup.now words.now
+        position.old text.now is_end found.old found.new }
+
     // What is not said to be written stays.
-    ensures rest { result ≡ GIVEN → drop count.new found.new ≡ drop count.new found.old }
-    ensures kept { result ≢ GIVEN → (position.new ≡ position.old) × (count.new ≡ count.old) }
+    ensures rest { TellsFound result → drop count.new found.new ≡ drop count.new found.old }
+    ensures kept { (TellsFound result) ⊎ ((position.new ≡ position.old) × (count.new ≡ count.old)) }
+    ensures kept_found { (TellsFound result) ⊎ ((result ≡ NO_MEMORY) ⊎ (found.new ≡ found.old)) }
     ensures kept_fault { result ≡ GIVEN → fault.new ≡ fault.old }
 {
     match Sought::from_bytes(alloc, setup, words, depth) {
@@ -342,28 +355,52 @@ fn find_into(
     count: &mut usize,
     fault: &mut SearchFault,
 ) -> u32
+    ensures statuses { (TellsFound result) ⊎ (result ≡ NO_MEMORY) }
     ensures given { result ≡ GIVEN → IsFoundIn sought.now.schema (formula sought.now.filter) position.old text.now
         is_end found.new count.new position.new }
-    ensures within { result ≡ GIVEN → count.new ≤ length found.new }
+    ensures within { TellsFound result → count.new ≤ length found.new }
     ensures refused { result ≢ GIVEN → SaysWhyRefused sought.now.schema position.old text.now
         fault.old fault.new result }
-    ensures rest { result ≡ GIVEN → drop count.new found.new ≡ drop count.new found.old }
-    ensures kept { result ≢ GIVEN → (position.new ≡ position.old) × (count.new ≡ count.old) }
+    ensures part { result ≡ REFUSED → (refusal : Refusal) × IsPartIn sought.now.schema (formula sought.now.filter)
+        position.old text.now is_end found.old found.new (searched_at count.new position.new) (Refused refusal) }
+    ensures place { result ≡ REFUSED → fault.new.place ≡ position.new.place }
+    ensures some { result ≡ NO_MEMORY → (searched : Searched) × IsPartIn sought.now.schema
+        (formula sought.now.filter) position.old text.now is_end found.old found.new searched Memory }
+    ensures rest { TellsFound result → drop count.new found.new ≡ drop count.new found.old }
+    ensures kept { (TellsFound result) ⊎ ((position.new ≡ position.old) × (count.new ≡ count.old)) }
     ensures kept_fault { result ≡ GIVEN → fault.new ≡ fault.old }
 {
     let start = Position {
         place: position.place,
         number: position.number,
     };
-    match find_rows_in(alloc, sought, start, text, is_end, found) {
-        Ok(searched) => {
-            *count = searched.count;
-            *position = RecordPosition {
-                place: searched.next.place,
-                number: searched.next.number,
-            };
+    let SearchedUntilFault {
+        searched,
+        fault: cause,
+    } = find_rows_until_fault(alloc, sought, start, text, is_end, found);
+    match cause {
+        None => {
+            tell_searched(searched, position, count);
             GIVEN
         }
-        Err(cause) => tell_search(cause, fault),
+        Some(cause) => {
+            let status = tell_search(cause, fault);
+            if status != REFUSED {
+                return status;
+            }
+            tell_searched(searched, position, count);
+            status
+        }
     }
+}
+
+/// Tells how many records were found, and where the first one stands that was not judged.
+fn tell_searched(searched: Searched, position: &mut RecordPosition, count: &mut usize)
+    ensures { searched_at count.new position.new ≡ searched }
+{
+    *count = searched.count;
+    *position = RecordPosition {
+        place: searched.next.place,
+        number: searched.next.number,
+    };
 }
