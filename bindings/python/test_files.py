@@ -392,8 +392,12 @@ class OfIndexes(InAFolder):
         path.write_bytes(b"1,a\n")
         index, other = Path(f"{path}.zones"), self.folder / "other"
         other.write_bytes(b"other")
-        # Links are passed over, and replaced.
+        # Links are not followed. They are passed over, and replaced.
         index.symlink_to(other)
+        with self.assertRaisesRegex(BadIndex, "trips.csv.zones is a link"):
+            doqallin.open(path)
+        with doqallin.open(path, index=False) as files:
+            self.assertEqual(files.count(), 1)
         (self.folder / "trips.csv.zones.new1").symlink_to(other)
         doqallin.index(path).close()
         self.assertEqual(other.read_bytes(), b"other")

@@ -263,9 +263,11 @@ static bool open_index(struct source *source, bool *is_there, char **message) {
     char *name = sqlite3_mprintf("%s.zones", source->path);
     if (name == NULL)
         return lacks_memory(message);
-    int index = open(name, O_RDONLY | O_CLOEXEC);
+    int index = open(name, O_RDONLY | O_CLOEXEC | O_NOFOLLOW);
     sqlite3_free(name);
     *is_there = index >= 0;
+    if (index < 0 && errno == ELOOP)
+        return fails(message, "%s.zones is a link, and none is followed: make the index again by zone_map index, or give whole=1", source->path);
     if (index < 0)
         return errno == ENOENT || fails(message, "%s.zones: %s", source->path, strerror(errno));
     struct doqallin_index_parts parts;
@@ -333,7 +335,7 @@ static bool read_blocks(const struct search *search, struct bytes *blocks, uint3
     size_t count = 0, most = source->column_count + 1;
     struct doqallin_byte_range *ranges = calloc(most, sizeof *ranges);
     char *name = sqlite3_mprintf("%s.zones", source->path);
-    int index = name == NULL ? -1 : open(name, O_RDONLY | O_CLOEXEC);
+    int index = name == NULL ? -1 : open(name, O_RDONLY | O_CLOEXEC | O_NOFOLLOW);
     bool is_read = ranges != NULL && index >= 0;
     if (!is_read)
         fails(message, "%s.zones: %s", source->path, strerror(errno));

@@ -175,6 +175,9 @@ def see_refusals(folder, store):
         file.write("1\n")
         index.write(b"no index of a file at all")
     refused(f"{make}('{folder}/damaged.csv')", "zone_map index")
+    os.rename(f"{folder}/damaged.csv.zones", f"{folder}/other")
+    os.symlink("other", f"{folder}/damaged.csv.zones")
+    refused(f"{make}('{folder}/damaged.csv')", "damaged.csv.zones is a link")
     with open(f"{folder}/indexed.csv", "a", encoding="utf-8") as file:
         file.write("\n")
     refused("select * from indexed", "not as it was")

@@ -11,7 +11,7 @@ from collections.abc import Iterable, Iterator, Mapping
 from typing import Any, NamedTuple
 
 from ._columns import Column, joined
-from ._errors import BadRecord, KindsDiffer, NoColumn, StaleIndex
+from ._errors import BadIndex, BadRecord, KindsDiffer, NoColumn, StaleIndex
 from ._indexes import BOUNDS, ROWS, Maker, Progress, sized, telling, write
 from ._library import Position, RawZone
 from ._searches import ALL_MATCH, EVERY_ROW, SKIP, UNKNOWN, WHOLE, Index, Match, guessed, matching
@@ -92,8 +92,10 @@ class _Source:
             return None
         if self._index is not True:
             return _Source(self._index, None)
-        if self._path is None or not os.path.exists(f"{self._path}.zones"):
+        if self._path is None or not os.path.lexists(f"{self._path}.zones"):
             return None
+        if os.path.islink(f"{self._path}.zones"):
+            raise BadIndex(f"{self.name}.zones is a link, and none is followed to an index: remove it, and make the index again, or open the file with index=False")
         return _Source(f"{self._path}.zones", None)
 
 

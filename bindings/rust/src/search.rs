@@ -7,7 +7,7 @@ use crate::raw::{
 };
 use crate::{Mistake, out_of_memory, raw};
 use std::fmt;
-use std::fs::File;
+use std::fs::{self, File};
 use std::io::{self, Read, Seek, SeekFrom};
 use std::path::Path;
 use std::time::UNIX_EPOCH;
@@ -20,6 +20,9 @@ pub(crate) const PIECE: u64 = 4 << 20;
 const BEGINNING: u64 = 1 << 20;
 /// How many records are found by one call.
 const FOUND: usize = 1024;
+/// What is said of a link in the place of an index.
+const LINK: &str =
+    "a link has the name of the index, and none is followed: remove it, and make the index again";
 /// Each record that is a row matches.
 const EVERY_ROW: &str = "true";
 
@@ -36,7 +39,7 @@ pub enum SearchError {
         /// What is wrong there.
         mistake: Mistake,
     },
-    /// The index is damaged, cut or another version's, or the file has none.
+    /// The index is damaged, cut or another version's, a link has its name, or the file has none.
     BadIndex(&'static str),
     /// The file is not the one that its index is of: it is longer, shorter, or was changed since.
     StaleIndex,
@@ -361,6 +364,9 @@ impl Search<File> {
         let (path, file) = (path.as_ref(), File::open(path.as_ref())?);
         let mut name = path.as_os_str().to_owned();
         name.push(".zones");
+        if fs::symlink_metadata(&name).is_ok_and(|found| found.is_symlink()) {
+            return Err(SearchError::BadIndex(LINK));
+        }
         match File::open(name) {
             Ok(index) => {
                 let changed = file

@@ -65,6 +65,13 @@ fn beside_a_file() -> Result<(), SearchError> {
     ));
     assert_eq!(fs::read(&index)?, before);
     assert_eq!(fs::read_dir(&folder)?.count(), 2);
+    #[cfg(unix)]
+    {
+        fs::rename(&index, folder.join("other"))?;
+        std::os::unix::fs::symlink("other", &index)?;
+        let refused = Search::open(&file).err();
+        assert!(matches!(refused, Some(SearchError::BadIndex(_))));
+    }
     fs::remove_dir_all(&folder)?;
     Ok(())
 }

@@ -2,10 +2,10 @@
 use Rattle.std.specs.Prelude.{◌≡◌, ◌<◌, ◌≤◌, ◌++◌, ℕ, List, [], ◌∷◌}
 use Rattle.zone_index.specs.declared.zones.Zone.{Zone}
 
--- there is one zone, and its length, rows and statistics are those of this one
+-- there is one zone, and its length, records, rows and statistics are those of this one
 abbrev pub IsOnly : List Zone → Zone → Type 0
 IsOnly [] zone = ⊥
-IsOnly (only ∷ []) zone = (only.length ≡ zone.length) × (only.rows ≡ zone.rows) × (only.statistics.items ≡ zone.statistics.items)
+IsOnly (only ∷ []) zone = (only.length ≡ zone.length) × (only.records ≡ zone.records) × (only.rows ≡ zone.rows) × (only.statistics.items ≡ zone.statistics.items)
 IsOnly (one ∷ other ∷ more) zone = ⊥
 
 -- a last zone of fewer records is taken away, and the next one begins where it did

@@ -4,8 +4,9 @@ use crate::program_errors::{FileError, ProgramError};
 use std::alloc::{AllocError, Global};
 use std::fs::{self, File, Metadata};
 use std::io::{self, BufReader, ErrorKind, Read, Seek, SeekFrom, Write};
+use std::os::unix::fs::FileExt;
 use std::time::UNIX_EPOCH;
-use zone_index::{Index, SearchError, WriteError, write_index};
+use zone_index::{Index, ReadAt, SearchError, WriteError, write_index};
 
 /// How many names are tried for a new file.
 const NAMES_TRIED: u32 = 1000;
@@ -17,6 +18,16 @@ pub struct Stamp {
     pub length: u64,
     /// Nanoseconds since 1970, as far as 64 bits count.
     pub changed: u64,
+}
+
+/// An open file that others read, too: bytes are read from any offset, and none is kept.
+#[derive(Clone, Copy)]
+pub struct SharedFile<'a>(pub &'a File);
+
+impl ReadAt for SharedFile<'_> {
+    fn read_at(&mut self, at: u64, into: &mut [u8]) -> io::Result<usize> {
+        FileExt::read_at(self.0, into, at)
+    }
 }
 
 /// The name of the index of a file.

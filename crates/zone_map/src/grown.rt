@@ -1,9 +1,11 @@
 //! Files that grew since they were indexed.
 
-ghost use Rattle.std.specs.Prelude.{◌≡◌, MatchBool};
+ghost use Rattle.std.specs.Prelude.{◌≡◌, ℕ, MatchBool};
 ghost use Rattle.csv_records.specs.Records.{is_start, state_at};
 ghost use Rattle.csv_records.specs.Rows.{state_after};
 ghost use Rattle.csv_records.specs.declared.states.RecordState.TheVariants.{StartRecord};
+ghost use Rattle.zone_index.specs.Sinks.{told};
+ghost use Rattle.zone_index.specs.Zones.{Follow};
 ghost use Rattle.zone_map.specs.Zones.{IsOnly};
 
 use csv_records::{Delimiter, RecordState, state_after_line};
@@ -11,8 +13,10 @@ use record_search::{RowDescriber, index_rows};
 use std::alloc::Global;
 use zone_index::{Index, ReadAt, SearchError, Zone, fill_from};
 
-/// Where the last zone ends.
-pub fn end_of(start: u64, zones: &[Zone]) -> u64 {
+/// Where the last of these zones ends, the first of which begins at `start`.
+pub fn end_of(start: u64, zones: &[Zone]) -> u64
+    ensures { (end : ℕ) → Follow start zones.now end → result ≡ told end }
+{
     match zones.last() {
         Some(zone) => zone.first.saturating_add(zone.length),
         None => start,
@@ -95,6 +99,7 @@ fn is_only_zone(zones: &[Zone], zone: &Zone) -> bool
     match zones {
         [only] => {
             only.length == zone.length
+                && only.records == zone.records
                 && only.rows == zone.rows
                 && only.statistics.as_slice() == zone.statistics.as_slice()
         }

@@ -1,6 +1,8 @@
 //! Indexes are made, or extended.
 
-ghost use Rattle.std.specs.Prelude.{◌⊎◌};
+ghost use Rattle.std.specs.Prelude.{◌≡◌, ◌≤◌, ◌⊎◌, ◌++◌, [], ℕ, List, IfErr, IfOk, OnOk, Some, length, max};
+ghost use Rattle.record_search.specs.Words.{HaveSizes, IfRefused, IsFullRowIndex, TellsOffset, before_refused, is_refused};
+ghost use Rattle.record_search.specs.Words.{records_under};
 ghost use Rattle.zone_map.specs.Zones.{GoesOn, Reopens};
 
 use crate::commands::IndexRequest;
@@ -20,8 +22,9 @@ use record_rows::{Kind, Schema};
 use record_search::{RowDescriber, index_rows};
 use std::alloc::Global;
 use std::fs::File;
+use std::io::BufRead;
 use std::process::ExitCode;
-use zone_index::{Index, Indexed, Zone};
+use zone_index::{Index, Indexed, SearchError, Zone};
 
 /// How many bytes a decimal of more than 18 digits is stored in.
 const WIDE_LENGTH: usize = 16;
@@ -109,7 +112,14 @@ fn made(
 }
 
 /// A setup with what a request says of zones and bounds.
-fn with_sizes(setup: Setup, request: &IndexRequest<'_>) -> Setup {
+fn with_sizes(setup: Setup, request: &IndexRequest<'_>) -> Setup
+    ensures bounds { request.now.bound_length ≤ result.numbers.bound_length }
+    ensures zones { result.numbers.zone_rows ≡ request.now.rows }
+    ensures delimiter { result.numbers.delimiter ≡ setup.numbers.delimiter }
+    ensures lenient { result.numbers.is_lenient ≡ setup.numbers.is_lenient }
+    ensures nulls { result.nulls ≡ setup.nulls }
+    ensures columns { result.columns ≡ setup.columns }
+{
     let Setup {
         numbers,
         nulls,
@@ -251,16 +261,39 @@ fn zones_from(
 ) -> Result<Indexed, ProgramError> {
     let file = at_place(file, place)?;
     let mut reader = buffered(rt.alloc(), Watched::telling(file, rt.stderr(), left))?;
-    let size = setup.numbers.zone_rows.max(1);
-    let describer = RowDescriber {
-        schema,
-        bound_length: setup.numbers.bound_length,
-    };
-    match index_rows(rt.alloc(), &describer, size, place, &mut reader) {
+    match zones_of(rt.alloc(), schema, setup.numbers, place, &mut reader) {
         Ok(indexed) => {
             reader.get_ref().end();
             Ok(indexed)
         }
         Err(fault) => Err(located(rt, Some(name), &setup.columns, &fault)),
     }
+}
+
+/// The zones of what a reader has left of a file from this offset on, of as many records and with bounds of as
+/// many bytes as is said.
+fn zones_of<B: BufRead>(
+    alloc: Global,
+    schema: &Schema,
+    numbers: Numbers,
+    place: u64,
+    reader: &mut B,
+) -> Result<Indexed, SearchError>
+    // They say all that is to be known of their rows.
+    ensures full { IfOk result (λ indexed. (before bytes : List ℕ) → length before ≡ place
+        → B.remaining reader.old ≡ Some bytes
+        → IsFullRowIndex numbers.bound_length schema.now place indexed.zones.items (before ++ bytes)) }
+    ensures sizes { IfOk result (λ indexed. (bytes : List ℕ) → B.remaining reader.old ≡ Some bytes
+        → HaveSizes (max numbers.zone_rows 1) indexed.zones.items) }
+    ensures ended { OnOk result ((bytes : List ℕ) → B.remaining reader.old ≡ Some bytes
+        → B.remaining reader.new ≡ Some []) }
+    // The record that is told is the first one that is refused.
+    ensures first { IfErr result (IfRefused (λ refusal. (bytes : List ℕ) → B.remaining reader.old ≡ Some bytes
+        → TellsOffset place (before_refused (is_refused schema.now) (records_under schema.now bytes)) refusal)) }
+{
+    let describer = RowDescriber {
+        schema,
+        bound_length: numbers.bound_length,
+    };
+    index_rows(alloc, &describer, numbers.zone_rows.max(1), place, reader)
 }

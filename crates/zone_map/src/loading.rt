@@ -11,7 +11,7 @@ use filter_sql::{Column, MAX_DEPTH, ParseError, filter_of_words};
 use record_rows::{Schema, dtype_of};
 use record_search::{RowDescriber, RowFilter};
 use std::alloc::{AllocError, Global};
-use std::fs::File;
+use std::fs::{self, File};
 use std::io::ErrorKind;
 use vortex_filter::Filter;
 use zone_index::{Index, ReadAt, ReadError, Root};
@@ -34,8 +34,9 @@ pub fn load_there(rt: &HostRuntime, file: &str) -> Result<Loaded, ProgramError> 
     }
 }
 
-/// The file of an index, if it is there.
+/// The file of an index, if it is there. No link is followed.
 fn open_index(rt: &HostRuntime, name: &str) -> Result<Option<IndexFile<File>>, ProgramError> {
+    refuse_link(rt, name)?;
     match File::open(rt, name) {
         Ok(file) => {
             let length = stamp_of(rt.alloc(), name, &file)?.length;
@@ -44,6 +45,21 @@ fn open_index(rt: &HostRuntime, name: &str) -> Result<Option<IndexFile<File>>, P
         Err(error) if error.kind() == ErrorKind::NotFound => Ok(None),
         Err(error) => Err(ProgramError::of_file(rt.alloc(), name, FileError::System(error))),
     }
+}
+
+/// Refuses a link of this name, so that no other file is taken for an index.
+fn refuse_link(rt: &HostRuntime, name: &str) -> Result<(), ProgramError> {
+    let fault = match fs::symlink_metadata(rt, name) {
+        Ok(metadata) => {
+            if !metadata.is_symlink() {
+                return Ok(());
+            }
+            FileError::Link
+        }
+        Err(error) if error.kind() == ErrorKind::NotFound => return Ok(()),
+        Err(error) => FileError::System(error),
+    };
+    Err(ProgramError::of_file(rt.alloc(), name, fault))
 }
 
 /// The index that a file of this name is, with all its statistics.

@@ -169,6 +169,8 @@ pub enum FileError {
     BadIndex(EncodingError),
     /// It is an index that this program did not write.
     OtherIndex,
+    /// A link has the name of an index.
+    Link,
 }
 
 /// What is wrong, and what helps.
@@ -187,6 +189,9 @@ impl Display for FileError {
             FileError::OtherIndex => {
                 f.write_str("the index is not one of this program; index the file again")
             }
+            FileError::Link => f.write_str(
+                "this is a link, and none is followed to an index; remove it, and index the file again",
+            ),
         }
     }
 }

@@ -6,21 +6,21 @@ use crate::answering::{Found, count_indexed, find_indexed};
 use crate::commands::{SearchRequest, Wanted};
 use crate::file_names::files_named;
 use crate::file_searches::{FileSearch, Form};
-use crate::files::{Stamp, buffered, open_file, stamp_of};
+use crate::files::{SharedFile, Stamp, at_place, buffered, open_file, stamp_of};
 use crate::grown::grown_end;
 use crate::lines::{Front, KnownFront, LineSink};
 use crate::loading::{Searched, load};
 use crate::locating::located;
 use crate::program_errors::{FAILED, FileError, ProgramError};
-use crate::streams::{flushed, output, search_stream};
-use crate::telling::{Told, tell_fault};
+use crate::streams::{output, search_stream};
+use crate::telling::{FoundInFile, Told, tell_fault};
 use crate::watching::Watched;
 use std::alloc::Global;
 use std::fs::File;
-use std::io::{BufWriter, Read, Stdout};
+use std::io::{BufRead, BufReader, BufWriter, Read, Stdout};
 use std::marker::Brand;
 use std::process::ExitCode;
-use zone_index::{Logged, NumberedSink, PlainSink, SearchError, Sink};
+use zone_index::{Logged, NumberedSink, PlainSink, SearchError, Tally};
 
 /// The status if no row was found.
 const NONE_FOUND: u8 = 1;
@@ -213,28 +213,28 @@ fn search_indexed(
 ) -> Result<u64, ProgramError> {
     let file = open_file(rt, search.file)?;
     let before = stamp_of(rt.alloc(), search.file, &file)?;
-    let mut reader = with_log(rt.alloc(), file);
-    search_logged(rt, search, searched, before, &mut reader)
+    search_opened(rt, search, searched, before, &file)
 }
 
 /// Searches a file by its index, which was so before, and tells on demand what was done.
-fn search_logged(
+fn search_opened(
     rt: &HostRuntime,
     search: FileSearch<'_, '_>,
     searched: &Searched,
     before: Stamp,
-    reader: &mut Logged<File>,
+    file: &File,
 ) -> Result<u64, ProgramError> {
-    let rest = rest_of(rt, search, searched, before, reader)?;
+    let mut reader = with_log(rt.alloc(), file);
+    let rest = rest_of(rt, search, searched, before, &mut reader)?;
     let compared = reader.asked.len();
-    match answer_indexed(rt, search, searched, rest, reader) {
+    match answer_file_indexed(rt, search, searched, rest, file, &mut reader) {
         Ok(found) => {
             if search.request.tells {
                 let note = search.note();
                 let told = Told::of(searched, found, rest, &reader.asked, compared);
                 let _ = eprintln!(rt; "{note}{told}");
             }
-            stays(rt, search, before, &reader.reader)?;
+            stays(rt, search, before, file)?;
             Ok(found.rows)
         }
         Err(fault) => {
@@ -245,76 +245,99 @@ fn search_logged(
 }
 
 /// Answers a search by an index, and of what is new from an offset on, on standard output.
-fn answer_indexed(
+fn answer_file_indexed(
     rt: &HostRuntime,
     search: FileSearch<'_, '_>,
     searched: &Searched,
     rest: Option<u64>,
-    reader: &mut Logged<File>,
-) -> Result<Found, SearchError> {
-    let alloc = rt.alloc();
-    match search.form() {
-        Form::Count => count_indexed(alloc, &searched.index, &searched.sought, rest, reader),
-        Form::Rows => write_found(
-            alloc,
-            searched,
-            rest,
-            reader,
-            PlainSink::new(alloc, output(rt)?),
-        ),
-        Form::NumberedRows => {
-            write_found(
-                alloc,
-                searched,
-                rest,
-                reader,
-                NumberedSink::new(alloc, output(rt)?),
-            )
+    file: &File,
+    reader: &mut Logged<SharedFile<'_>>,
+) -> Result<FoundInFile, SearchError> {
+    match rest {
+        Some(place) => {
+            let mut new = watched_from(rt.alloc(), file, place)?;
+            let (tally, rows) = answer_indexed(rt, search, searched, reader, &mut new)?;
+            Ok(FoundInFile {
+                tally,
+                rows,
+                new_bytes: new.get_ref().count,
+            })
         }
-        Form::Lines { has_number } => {
-            let front = search.front(alloc, has_number)?;
-            write_lines::<Brand>(alloc, searched, rest, reader, output(rt)?, front)
+        None => {
+            let mut nothing: &[u8] = &[];
+            let (tally, rows) = answer_indexed(rt, search, searched, reader, &mut nothing)?;
+            Ok(FoundInFile {
+                tally,
+                rows,
+                new_bytes: 0,
+            })
         }
     }
 }
 
+/// A file from this offset on, through a buffer, with its bytes counted.
+fn watched_from<'a>(
+    alloc: Global,
+    file: &'a File,
+    place: u64,
+) -> Result<BufReader<Watched<&'a File>>, SearchError> {
+    Ok(buffered(alloc, Watched::silent(at_place(file, place)?))?)
+}
+
+/// Answers a search by an index, and of what another reader has left, on standard output. Says what became of
+/// the zones, if that is counted, and how many rows match.
+fn answer_indexed<B: BufRead>(
+    rt: &HostRuntime,
+    search: FileSearch<'_, '_>,
+    searched: &Searched,
+    reader: &mut Logged<SharedFile<'_>>,
+    new: &mut B,
+) -> Result<(Option<Tally>, u64), SearchError> {
+    let alloc = rt.alloc();
+    let index = &searched.index;
+    let matcher = searched.sought.matcher();
+    let found = match search.form() {
+        Form::Count => {
+            let rows = count_indexed(alloc, index, &matcher, reader, new)?;
+            return Ok((None, rows));
+        }
+        Form::Rows => {
+            let mut sink = PlainSink::new(alloc, output(rt)?);
+            find_indexed(alloc, index, &matcher, reader, new, &mut sink)?
+        }
+        Form::NumberedRows => {
+            let mut sink = NumberedSink::new(alloc, output(rt)?);
+            find_indexed(alloc, index, &matcher, reader, new, &mut sink)?
+        }
+        Form::Lines { has_number } => {
+            let front = search.front(alloc, has_number)?;
+            write_lines::<Brand, B>(alloc, searched, reader, new, output(rt)?, front)?
+        }
+    };
+    Ok((Some(found.tally), found.rows))
+}
+
 /// Writes the records that match as lines, each behind a front.
-fn write_lines<K: KnownFront>(
+fn write_lines<K: KnownFront, B: BufRead>(
     alloc: Global,
     searched: &Searched,
-    rest: Option<u64>,
-    reader: &mut Logged<File>,
+    reader: &mut Logged<SharedFile<'_>>,
+    new: &mut B,
     writer: BufWriter<Stdout>,
     front: Front,
 ) -> Result<Found, SearchError>
     requires text { front.text.items ≡ K.text }
     requires number { front.has_number ≡ K.has_number }
 {
-    let sink = LineSink::<K, BufWriter<Stdout>>::new(alloc, writer, front);
-    write_found(alloc, searched, rest, reader, sink)
-}
-
-/// Gives a sink the records that match.
-fn write_found<S: Sink + Drop>(
-    alloc: Global,
-    searched: &Searched,
-    rest: Option<u64>,
-    reader: &mut Logged<File>,
-    mut sink: S,
-) -> Result<Found, SearchError> {
-    let Searched {
-        index,
-        read: _,
-        sought,
-    } = searched;
-    let found = find_indexed(alloc, index, sought, rest, reader, &mut sink);
-    flushed(found, sink.flush())
+    let mut sink = LineSink::<K, BufWriter<Stdout>>::new(alloc, writer, front);
+    let matcher = searched.sought.matcher();
+    find_indexed(alloc, &searched.index, &matcher, reader, new, &mut sink)
 }
 
 /// The file, with what it is asked for.
-fn with_log(alloc: Global, file: File) -> Logged<File> {
+fn with_log<'a>(alloc: Global, file: &'a File) -> Logged<SharedFile<'a>> {
     Logged {
-        reader: file,
+        reader: SharedFile(file),
         asked: Vec::new(alloc),
     }
 }
@@ -327,7 +350,7 @@ fn rest_of(
     search: FileSearch<'_, '_>,
     searched: &Searched,
     now: Stamp,
-    reader: &mut Logged<File>,
+    reader: &mut Logged<SharedFile<'_>>,
 ) -> Result<Option<u64>, ProgramError> {
     let Searched {
         index,

@@ -1,9 +1,10 @@
 //! Zones are shown.
 
+use crate::answering::flushed;
 use crate::column_lists::columns_text;
 use crate::loading::{Loaded, load_there, schema_of};
 use crate::program_errors::ProgramError;
-use crate::streams::{flushed, output};
+use crate::streams::output;
 use csv_columns::NamedColumn;
 use logical_scalars::word_of_scalar;
 use record_rows::{ColumnType, Kind};

@@ -2,7 +2,7 @@
 
 ghost use Rattle.std.specs.Prelude.{◌≡◌};
 
-use crate::answering::{PIECE, first_row};
+use crate::answering::{PIECE, find_whole};
 use crate::file_searches::{FileSearch, Form};
 use crate::lines::{Front, KnownFront, LineSink};
 use crate::loading::Sought;
@@ -15,7 +15,7 @@ use std::alloc::Global;
 use std::io::{BufRead, BufWriter, Read, Stdout};
 use std::marker::Brand;
 use vortex_dtype::Nullability;
-use zone_index::{Matcher, NumberedSink, PlainSink, SearchError, Sink, count_rest, find_rest};
+use zone_index::{Matcher, NumberedSink, PlainSink, SearchError, count_rest};
 
 /// Answers a search of a whole stream, and says how many rows match.
 pub fn search_stream<B: BufRead>(
@@ -49,21 +49,13 @@ fn answer_stream<M: Matcher, B: BufRead>(
     let alloc = rt.alloc();
     match search.form() {
         Form::Count => count_rest(alloc, PIECE, start, matcher, reader),
-        Form::Rows => write_stream(
-            alloc,
-            matcher,
-            start,
-            reader,
-            PlainSink::new(alloc, output(rt)?),
-        ),
+        Form::Rows => {
+            let mut sink = PlainSink::new(alloc, output(rt)?);
+            find_whole(alloc, matcher, start, reader, &mut sink)
+        }
         Form::NumberedRows => {
-            write_stream(
-                alloc,
-                matcher,
-                start,
-                reader,
-                NumberedSink::new(alloc, output(rt)?),
-            )
+            let mut sink = NumberedSink::new(alloc, output(rt)?);
+            find_whole(alloc, matcher, start, reader, &mut sink)
         }
         Form::Lines { has_number } => {
             let front = search.front(alloc, has_number)?;
@@ -84,20 +76,8 @@ fn write_lines<K: KnownFront, M: Matcher, B: BufRead>(
     requires text { front.text.items ≡ K.text }
     requires number { front.has_number ≡ K.has_number }
 {
-    let sink = LineSink::<K, BufWriter<Stdout>>::new(alloc, writer, front);
-    write_stream(alloc, matcher, start, reader, sink)
-}
-
-/// Gives a sink the records of a stream that match, and says how many they are.
-fn write_stream<M: Matcher, B: BufRead, S: Sink + Drop>(
-    alloc: Global,
-    matcher: &M,
-    start: u64,
-    reader: &mut B,
-    mut sink: S,
-) -> Result<u64, SearchError> {
-    let found = find_rest(alloc, PIECE, first_row(start), matcher, reader, &mut sink);
-    flushed(found, sink.flush())
+    let mut sink = LineSink::<K, BufWriter<Stdout>>::new(alloc, writer, front);
+    find_whole(alloc, matcher, start, reader, &mut sink)
 }
 
 /// What is sought. If nothing is said of how records are read and the filter is none of the guessed
@@ -171,13 +151,4 @@ pub fn output(rt: &HostRuntime) -> Result<BufWriter<Stdout>, SearchError> {
         Ok(writer) => Ok(writer),
         Err(_) => Err(SearchError::Memory),
     }
-}
-
-/// What was done, once the output is flushed, which is flushed after an error, too.
-pub fn flushed<T: Drop>(
-    done: Result<T, SearchError>,
-    flush: Result<(), SearchError>,
-) -> Result<T, SearchError> {
-    flush?;
-    done
 }

@@ -1,6 +1,5 @@
 //! What a search by an index did is told, and what is wrong with one of several files.
 
-use crate::answering::Found;
 use crate::loading::Searched;
 use crate::program_errors::{About, NamedFault, ProgramError};
 use std::fmt::{self, Display, Formatter, Write};
@@ -18,6 +17,17 @@ pub fn tell_fault(rt: &HostRuntime, file: &str, fault: ProgramError) -> Result<(
     };
     let _ = eprintln!(rt; "{told}");
     Ok(())
+}
+
+/// What was found in a file by its index.
+#[derive(Clone, Copy)]
+pub struct FoundInFile {
+    /// What became of the zones, if that was counted.
+    pub tally: Option<Tally>,
+    /// How many rows match, as far as 64 bits count.
+    pub rows: u64,
+    /// How many bytes were read of what is new, as far as 64 bits count.
+    pub new_bytes: u64,
 }
 
 /// What a search by an index did.
@@ -42,7 +52,7 @@ impl Told {
     /// compare the last zone. New bytes stand from `rest` on, if there are any.
     pub fn of(
         searched: &Searched,
-        found: Found,
+        found: FoundInFile,
         rest: Option<u64>,
         asked: &[Asked],
         compared: usize,

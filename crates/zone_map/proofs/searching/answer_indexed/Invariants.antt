@@ -2,4 +2,4 @@
 use Rattle.zone_map.proofs.searching.answer_indexed.Given as goal
 
 abbrev pub ghosts-write_lines : goal.ghosts-write_lines
-ghosts-write_lines a = record { text = a.front.text.items; has_number = a.front.has_number }
+ghosts-write_lines g a = record { text = a.front.text.items; has_number = a.front.has_number }

@@ -1,0 +1,14 @@
+-- The blocks are those that stand there.
+use Rattle.std.proofs.Common.{◌≡◌, List, arith, drop, length}
+use Rattle.std.proofs.lemmas.List.{length-drop}
+use Rattle.std.specs.Prelude.{map}
+use Rattle.zone_index.specs.Encoding.{block_value}
+use Rattle.zone_scans.specs.Wanted.{length_of_blocks}
+use Rattle.zone_map.proofs.IndexBytes.{for_some, pieces_at}
+use Rattle.zone_map.proofs.index_files.IndexFile.index.Goals as goal
+
+pub returns-clause-found : goal.returns-clause-found
+returns-clause-found g c = for_some _ _ (λ xs is all.
+    let right = rw (c.deref.ensures.value) at c.in_ok-check_length.ensures.right in
+    let size : length (drop c.args.start xs) ≡ length_of_blocks (map block_value c.args.root.blocks.items) = omega (arith, right, all, length-drop c.args.start xs, c.saturating_sub.ensures) in
+    c.in_ok-read_wanted.ensures.same (drop c.args.start xs) size (cc (pieces_at _ xs _ _ _ is all c.in_ok-bytes.ensures.read, c.in_ok-ranges.ensures.covers xs)))
