@@ -455,7 +455,8 @@ struct doqallin_index_parts {
  * BAD_FILTER: `place` is the byte of the words, and `reason` a code as of doqallin_mistake.
  * BAD_OFFSETS: `place` is the first zone to be read that ends at 2^64 or behind it; of a text that is indexed all three are 0.
  * REFUSED: `place` is the offset in the file at which the record begins, `reason` one of the DOQALLIN_REFUSED_.., and `column` the
- * column, from 0, that does not take its field. */
+ * column, from 0, that does not take its field.
+ * WRONG_LENGTH, UNKNOWN_KIND: as the call says. */
 struct doqallin_search_fault {
     uint64_t place;
     uint64_t column;
@@ -559,6 +560,32 @@ struct doqallin_position {
 uint32_t doqallin_search_records(const uint8_t *setup, size_t setup_length, const uint8_t *words, size_t words_length, size_t depth,
                                  const uint8_t *text, size_t text_length, bool is_end, struct doqallin_position *position,
                                  struct doqallin_found *found, size_t found_length, size_t *count,
+                                 struct doqallin_search_fault *fault);
+
+/* What doqallin_search_columns writes each column of a setup as: integers as those of their type, strings and bytes with offsets of 64
+ * bits, decimals of 128 bits, and floats, days, times and timestamps as their kinds.
+ * GIVEN: the first *count of `kinds`, one for each column; those after them are as they were.
+ * BUFFER_TOO_SMALL: *count, which is all that is written, is how many columns there are.
+ * BAD_BYTES: `setup` is none. NO_MEMORY: *fault is not written. */
+uint32_t doqallin_column_kinds(const uint8_t *setup, size_t setup_length, struct doqallin_kind *kinds, size_t kinds_length,
+                               size_t *count, struct doqallin_search_fault *fault);
+
+/* The columns of the rows of a text that match, those wanted alone: `wanted` has their places among the columns of the setup, from 0,
+ * in any order. The text stands at `place` in the file, begins with a record and ends with one, as a zone does. Each record is read
+ * once. What is written zone by zone is, one behind another, what is written of the whole file.
+ * GIVEN: *rows is how many rows match. Each column is written as by doqallin_columns_of_row_keys, of the kind that
+ * doqallin_column_kinds says, so that it may have nulls.
+ * BUFFER_TOO_SMALL: a buffer is too short. *rows and the counts, which are all that is written, say how many rows match and how many
+ * bytes the values of each column have. A call without buffers asks for them.
+ * BAD_BYTES, NOT_UTF8, BAD_FILTER: of the words, the setup and the filter, the first that is wrong.
+ * WRONG_LENGTH: there are not as many columns as are wanted, which are fault->place.
+ * UNKNOWN_KIND: what stands at fault->column of `wanted` is no column of the setup.
+ * REFUSED: this is the first record that has fields that are no row.
+ * NO_MEMORY: may come in place of each but NOT_UTF8. Memory is asked for the filter, and for the rows that match.
+ * Under each status but GIVEN the buffers stay as they were. */
+uint32_t doqallin_search_columns(const uint8_t *setup, size_t setup_length, const uint8_t *words, size_t words_length, size_t depth,
+                                 uint64_t place, const uint8_t *text, size_t text_length, const size_t *wanted,
+                                 size_t wanted_length, struct doqallin_column_buffers *columns, size_t column_count, size_t *rows,
                                  struct doqallin_search_fault *fault);
 
 /* A setup for a file without an index, whose columns are guessed from its first records. `text` is how the file begins, or all
