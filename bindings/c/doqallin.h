@@ -482,7 +482,8 @@ struct doqallin_index_parts {
  * BAD_OFFSETS: `place` is the first zone to be read that ends at 2^64 or behind it. If a text is indexed, all three are
  * 0.
  * REFUSED: `place` is the offset in the file at which the record begins, and `reason` one of the DOQALLIN_REFUSED_...
- * `column` is the column, from 0, that does not take its field. */
+ * `column` is the column, from 0, that does not take its field.
+ * WRONG_LENGTH, UNKNOWN_KIND: as the call says. */
 struct doqallin_search_fault {
     uint64_t place;
     uint64_t column;
@@ -591,6 +592,32 @@ struct doqallin_position {
 uint32_t doqallin_search_records(const uint8_t *setup, size_t setup_length, const uint8_t *words, size_t words_length, size_t depth,
                                  const uint8_t *text, size_t text_length, bool is_end, struct doqallin_position *position,
                                  struct doqallin_found *found, size_t found_length, size_t *count,
+                                 struct doqallin_search_fault *fault);
+
+/* The kinds that doqallin_search_columns gives to the columns of a setup. Integers keep their type, strings and bytes have
+ * offsets of 64 bits, and decimals 128 bits. Floats, days, times and timestamps keep their kinds.
+ * GIVEN: the first *count items of `kinds` are written, one for each column. Those behind them stay as they were.
+ * BUFFER_TOO_SMALL: *count is how many columns there are. Nothing else is written.
+ * BAD_BYTES: `setup` is none. NO_MEMORY: *fault is not written. */
+uint32_t doqallin_column_kinds(const uint8_t *setup, size_t setup_length, struct doqallin_kind *kinds, size_t kinds_length,
+                               size_t *count, struct doqallin_search_fault *fault);
+
+/* The columns of the rows in a text that match. `wanted` has the places of the wanted columns in the setup, from 0, in any
+ * order. The text is at `place` in the file. It begins with a record and ends with one, as a zone does. Each record is read
+ * once. The columns of several zones, one behind another, are those of the whole file.
+ * GIVEN: *rows is how many rows match. Each column is written as doqallin_columns_of_row_keys does, in the kind that
+ * doqallin_column_kinds gives, so that it may have nulls.
+ * BUFFER_TOO_SMALL: a buffer is too short. *rows is how many rows match, and each count is how many bytes the values have.
+ * Nothing else is written. A call without buffers asks for these numbers.
+ * BAD_BYTES, NOT_UTF8, BAD_FILTER: the first of these that is wrong: the filter's text, the setup, the filter.
+ * WRONG_LENGTH: the columns are not as many as the wanted ones. fault->place is how many are wanted.
+ * UNKNOWN_KIND: the item fault->column of `wanted` is no column of the setup.
+ * REFUSED: a record has fields and is no row. *fault describes the first such record.
+ * NO_MEMORY: may come in place of each status but NOT_UTF8. Memory is asked for the filter and for the rows that match.
+ * Under each status but GIVEN the buffers stay as they were. */
+uint32_t doqallin_search_columns(const uint8_t *setup, size_t setup_length, const uint8_t *words, size_t words_length, size_t depth,
+                                 uint64_t place, const uint8_t *text, size_t text_length, const size_t *wanted,
+                                 size_t wanted_length, struct doqallin_column_buffers *columns, size_t column_count, size_t *rows,
                                  struct doqallin_search_fault *fault);
 
 /* A setup for a file without an index, whose columns are guessed from its first records. `text` is how the file begins,

@@ -157,6 +157,47 @@ static void records(void) {
     setup_length++;
 }
 
+// The columns of a setup that are wanted, with room for so many rows and for so many bytes of strings.
+static struct doqallin_kind kinds[MOST];
+static struct doqallin_column_buffers columns[2];
+static uint8_t bits[2][MOST], values[2][MOST];
+static uint64_t offsets[2][MOST];
+static size_t rows;
+
+static uint32_t columns_of(const char *words, const char *text, const size_t *wanted, size_t wanted_count, size_t most, size_t room) {
+    for (size_t place = 0; place < 2; place++) {
+        memset(bits[place], 0xff, MOST), memset(values[place], 0xff, MOST);
+        columns[place] = (struct doqallin_column_buffers){bits[place], (most + 7) / 8, values[place], room, offsets[place], most + 1, 77};
+    }
+    return doqallin_search_columns(setup, setup_length, (const uint8_t *)words, strlen(words), DEPTH, 100, (const uint8_t *)text, strlen(text),
+                                   wanted, wanted_count, columns, 2, &rows, &fault);
+}
+
+static void found_columns(void) {
+    static const size_t wanted[2] = {1, 0}, same[2] = {1, 1}, none[2] = {0, 2};
+    const char *text = "1,a\n2,\n3,\"c,c\"\n\n";
+    CHECK(doqallin_column_kinds(setup, setup_length, kinds, MOST, &count, &fault) == DOQALLIN_GIVEN && count == 2);
+    CHECK(kinds[0].code == DOQALLIN_I64 && kinds[1].code == DOQALLIN_LARGE_UTF8);
+    CHECK(doqallin_column_kinds(setup, setup_length, kinds, 1, &count, &fault) == DOQALLIN_BUFFER_TOO_SMALL && count == 2);
+    CHECK(doqallin_column_kinds(setup, setup_length - 1, kinds, MOST, &count, &fault) == DOQALLIN_BAD_BYTES && fault.column == DOQALLIN_PART_SETUP);
+    CHECK(columns_of("n > 1", text, wanted, 2, 2, 16) == DOQALLIN_GIVEN && rows == 2 && columns[0].count == 3 && columns[1].count == 16);
+    CHECK(bits[0][0] == 2 && bits[0][1] == 0xff && !memcmp(values[0], "c,c\xff", 4) && offsets[0][0] == 0 && offsets[0][1] == 0 && offsets[0][2] == 3);
+    CHECK(bits[1][0] == 3 && values[1][0] == 2 && values[1][8] == 3 && values[1][15] == 0 && values[1][16] == 0xff);
+    CHECK(columns_of("n > 1", text, same, 2, 2, 3) == DOQALLIN_GIVEN && columns[0].count == 3 && columns[1].count == 3 && !memcmp(values[1], "c,c\xff", 4));
+    CHECK(columns_of("n > 9", text, wanted, 2, 2, 16) == DOQALLIN_GIVEN && rows == 0 && columns[0].count == 0 && bits[0][0] == 0xff);
+    CHECK(columns_of("true", text, wanted, 2, 2, 24) == DOQALLIN_BUFFER_TOO_SMALL && rows == 3 && columns[0].count == 4 && columns[1].count == 24);
+    CHECK(columns_of("n > 1", text, wanted, 2, 2, 15) == DOQALLIN_BUFFER_TOO_SMALL && rows == 2 && values[0][0] == 0xff && bits[0][0] == 0xff);
+    rows = 77;
+    CHECK(columns_of("n > 1", text, wanted, 1, 2, 16) == DOQALLIN_WRONG_LENGTH && fault.place == 1 && rows == 77 && columns[0].count == 77);
+    CHECK(columns_of("n > 1", text, none, 2, 2, 16) == DOQALLIN_UNKNOWN_KIND && fault.column == 1);
+    CHECK(columns_of("n > 1", "5,a\nx,b\n", wanted, 2, 2, 16) == DOQALLIN_REFUSED && fault.place == 104 && fault.reason == DOQALLIN_REFUSED_FIELD && fault.column == 0);
+    CHECK(columns_of("n >", text, wanted, 2, 2, 16) == DOQALLIN_BAD_FILTER && fault.place == 3 && rows == 77 && columns[1].count == 77);
+    CHECK(columns_of("n > 1 or word = '\xff'", text, wanted, 2, 2, 16) == DOQALLIN_NOT_UTF8);
+    setup_length--;
+    CHECK(columns_of("n > 1", text, wanted, 2, 2, 16) == DOQALLIN_BAD_BYTES && fault.column == DOQALLIN_PART_SETUP);
+    setup_length++;
+}
+
 static void setups(void) {
     CHECK(setup_of("44 0 0 0\n", "a,b\n1,x\n", true, ROOM) == DOQALLIN_GIVEN && setup_is("44 0 0 0\ni64? a\nutf8? b\n"));
     CHECK(setup_of("null -\n59 1 0 0\n", "1.5;-\n", false, ROOM) == DOQALLIN_GIVEN && setup_is("null -\n59 1 0 0\ndecimal(18,1)? $1\nutf8? $2\n"));
@@ -253,6 +294,8 @@ static uint32_t take_memory(int which) {
     case 4: return setup_of("44 0 0 0\n", "a,b\n1,x\n", true, ROOM);
     case 5: return zones_in("1,a\n2,b\n", true);
     case 6: return index_of(made_lengths.zones, made_lengths.statistics, ROOM);
+    case 7: return columns_of("n > 1", "1,a\n2,a word of more bytes than stand in line\n", (const size_t[]){1, 0}, 2, 2, MOST);
+    case 8: return doqallin_column_kinds(setup, setup_length, kinds, MOST, &count, &fault);
     default: exit(2);
     }
 }
@@ -290,6 +333,7 @@ int main(int argc, char **argv) {
     roots();
     plans();
     records();
+    found_columns();
     setups();
     indexes();
     printf("%d passed, %d failed\n", passed, failed);

@@ -54,6 +54,9 @@ class BoundLengths(ctypes.Structure):
 class RawKind(ctypes.Structure):
     """A kind by its code, with the precision and the scale of decimals."""
 
+    code: int
+    precision: int
+    scale: int
     _fields_ = [("code", c_uint8), ("precision", c_uint8), ("scale", c_uint8)]
 
 
@@ -259,6 +262,8 @@ index_root = _declare("index_root", c_uint32, *_BYTES, *_SPACE, _OUT, POINTER(In
 search_blocks = _declare("search_blocks", c_uint32, *_BYTES, *_BYTES, c_size_t, *_SPACE, _OUT, _FAULT)
 search_plan = _declare("search_plan", c_uint32, *_BYTES, *_BYTES, *_BYTES, c_size_t, c_bool, *_SPACE, *_SPACE, POINTER(PlanLengths), _FAULT)
 search_records = _declare("search_records", c_uint32, *_BYTES, *_BYTES, c_size_t, *_BYTES, c_bool, POINTER(Position), *_SPACE, _OUT, _FAULT)
+column_kinds = _declare("column_kinds", c_uint32, *_BYTES, *_SPACE, _OUT, _FAULT)
+search_columns = _declare("search_columns", c_uint32, *_BYTES, *_BYTES, c_size_t, c_uint64, *_BYTES, *_SPACE, *_SPACE, _OUT, _FAULT)
 guess_setup = _declare("guess_setup", c_uint32, *_BYTES, *_BYTES, c_bool, c_bool, *_SPACE, _OUT, POINTER(c_uint64), _FAULT)
 index_records = _declare("index_records", c_uint32, *_BYTES, c_uint64, *_BYTES, c_bool, *_SPACE, *_SPACE, POINTER(IndexLengths), _FAULT)
 write_index = _declare("write_index", c_uint32, *_BYTES, c_uint64, c_uint64, c_uint64, *_SPACE, *_BYTES, *_SPACE, _OUT, _FAULT)

@@ -14,6 +14,8 @@ mod LogicalLiterals
 mod LogicalWords
 mod NestSteps
 mod PartSteps
+mod SearchColumnSteps
+mod SetupKindSteps
 mod SqlSteps
 mod StartSteps
 mod TokenTexts

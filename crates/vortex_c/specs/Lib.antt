@@ -18,6 +18,7 @@ pub mod KeyWords
 pub mod Parts
 pub mod RowKeys
 pub mod Setups
+pub mod SearchColumns
 pub mod SearchFaults
 pub mod Searches
 pub mod SearchWords
