@@ -64,7 +64,12 @@ fn has_space(kind: Kind, rows: usize, column: &ColumnBuffers) -> bool
 }
 
 /// Says how many bytes the values of a column have. Answers whether its buffers suffice.
-pub fn count_column(rows: &[Vec<Scalar>], which: usize, kind: Kind, column: &mut ColumnBuffers) -> bool
+pub fn count_column(
+    rows: &[Vec<Scalar>],
+    which: usize,
+    kind: Kind,
+    column: &mut ColumnBuffers,
+) -> bool
     requires few { length rows.now < usize.MAX }
     requires cells { HaveColumn rows.now which }
     ensures counted { column.new ≡ record column.old
