@@ -9,3 +9,4 @@ mod ListCasts
 mod MergeSteps
 mod PieceSteps
 mod ReadBack
+mod TextSteps
