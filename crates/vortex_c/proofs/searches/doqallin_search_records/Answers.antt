@@ -8,3 +8,13 @@ returns-in-Ok-clause-given c = λ g. record { schema = c.in-Ok.sought.schema; f 
 
 pub returns-in-Ok-clause-refused : goal.returns-in-Ok-clause-refused
 returns-in-Ok-clause-refused c = λ other. inr (c.in-Ok.sought.schema, formula c.in-Ok.sought.filter, c.in-Ok.ensures.sought, c.find_into.ensures.refused other)
+
+pub returns-in-Ok-clause-part : goal.returns-in-Ok-clause-part
+returns-in-Ok-clause-part c = λ was.
+    let told = c.find_into.ensures.part was in
+    record { schema = c.in-Ok.sought.schema; f = formula c.in-Ok.sought.filter; sought = c.in-Ok.ensures.sought; refusal = told.0; part = told.1 }
+
+pub returns-in-Ok-clause-some : goal.returns-in-Ok-clause-some
+returns-in-Ok-clause-some c = λ was.
+    let told = c.find_into.ensures.some was in
+    inr (record { schema = c.in-Ok.sought.schema; f = formula c.in-Ok.sought.filter; sought = c.in-Ok.ensures.sought; searched = told.0; part = told.1 })
