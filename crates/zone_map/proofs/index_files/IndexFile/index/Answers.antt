@@ -11,7 +11,7 @@ use Rattle.zone_map.proofs.index_files.IndexFile.index.Goals as goal
 pub returns-clause-found : goal.returns-clause-found
 returns-clause-found g c =
     let each : (xs : List ℕ) → g.R.ReadAt.bytes c.args.self.now.reader ≡ Some xs → length xs ≡ c.args.self.now.length → index_at c.args.wanted.now (root_value c.args.root) (drop c.args.start xs) ≡ Ok (index_value c.in_ok-read_wanted.field-0) = λ xs is all.
-        let right = rw (c.deref.ensures.value) at c.in_ok-check_length.ensures.right in
-        let size : length (drop c.args.start xs) ≡ length_of_blocks (map block_value c.args.root.blocks.items) = omega (arith, right, all, length-drop c.args.start xs, c.saturating_sub.ensures) in
-        c.in_ok-read_wanted.ensures.same (drop c.args.start xs) size (cc (pieces_at (g.R.ReadAt.bytes c.args.self.now.reader) xs c.in_ok-bytes.bytes.items c.deref-3.result.now c.args.self.now.length is all c.in_ok-bytes.ensures.read, c.deref-3.ensures.value, c.deref-4.ensures.value, c.in_ok-ranges.ensures.covers xs)) in
+    let right = rw (c.deref.ensures.value) at c.in_ok-check_length.ensures.right in
+    let size : length (drop c.args.start xs) ≡ length_of_blocks (map block_value c.args.root.blocks.items) = omega (arith, right, all, length-drop c.args.start xs, c.saturating_sub.ensures) in
+    c.in_ok-read_wanted.ensures.same (drop c.args.start xs) size (cc (pieces_at (g.R.ReadAt.bytes c.args.self.now.reader) xs c.in_ok-bytes.bytes.items c.deref-3.result.now c.args.self.now.length is all c.in_ok-bytes.ensures.read, c.deref-3.ensures.value, c.deref-4.ensures.value, c.in_ok-ranges.ensures.covers xs)) in
     for_some (λ xs. length xs ≡ c.args.self.now.length → index_at c.args.wanted.now (root_value c.args.root) (drop c.args.start xs) ≡ Ok (index_value c.in_ok-read_wanted.field-0)) _ each

@@ -20,5 +20,5 @@ loop-range-preserved g c = record {
 pub returns-clause-read : goal.returns-clause-read
 returns-clause-read g c =
     let each : (xs : List ℕ) → g.R.ReadAt.bytes c.args.self.now.reader ≡ Some xs → length xs ≡ c.args.self.now.length → c.loop-range.bytes.items ≡ bytes_of xs c.args.ranges.now = λ xs is all.
-        c.loop-range.invariant.read xs is all ∙ ap (bytes_of xs) (take_all c.loop-range.range-index c.args.ranges.now (search rules)) in
+    c.loop-range.invariant.read xs is all ∙ ap (bytes_of xs) (take_all c.loop-range.range-index c.args.ranges.now (search rules)) in
     for_some (λ xs. length xs ≡ c.args.self.now.length → c.loop-range.bytes.items ≡ bytes_of xs c.args.ranges.now) _ each
