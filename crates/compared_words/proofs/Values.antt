@@ -10,7 +10,7 @@ use Rattle.logical_scalars.specs.Stored.{IsOfLogicalType, logical_tree, raw_stor
 use Rattle.logical_scalars.specs.TypeShapes.{shape_in}
 use Rattle.logical_types.specs.Extensions.{HasMetadata, id_of, metadata_of, storage_type_of}
 use Rattle.logical_types.specs.Places.{fine_scale, number_at}
-use Rattle.logical_types.specs.Shapes.{Shape, at_value_or, place_at, place_in, shape_of, storage_in, stored_as}
+use Rattle.logical_types.specs.Shapes.{Shape, at_value_or, place_at, place_in, shape_of, storage_in, stored_as, timestamps}
 use Rattle.logical_types.specs.Storing.{decimal_bytes}
 use Rattle.logical_types.specs.Words.{Writes}
 use Rattle.logical_types.specs.declared.extensions.StorageType.{StorageType}
@@ -22,7 +22,7 @@ use Rattle.record_rows.specs.Cells.{stored_content}
 use Rattle.vortex_cells.specs.Cells.{is_null_content}
 use Rattle.vortex_dtype.specs.TypeTree.{TypeTree}
 use Rattle.vortex_dtype.specs.declared.nullability.Nullability.{Nullability}
-use Rattle.vortex_filter.specs.Literals.{LiteralTree, decimal_at, logical_cell, number_literal, number_of_shape, position_of, storage_content, text_literal, text_of_shape}
+use Rattle.vortex_filter.specs.Literals.{LiteralTree, decimal_at, logical_cell, number_literal, number_of_shape, option_or, position_of, storage_content, text_literal, text_of_shape}
 use Rattle.vortex_filter.specs.Positions.{PositionTree, exactly}
 use Rattle.vortex_filter.proofs.LiteralTypes.{TypesSay, WordsSay, storage_is}
 use Rattle.vortex_value.specs.Order.{order}
@@ -117,7 +117,10 @@ module _ (say : WordsSay) (t : TypeTree) where
   text_at (Decimal d) word z p w h = value_number (Decimal d) word z p w h
   text_at Date word z p w h = value_at Date word z p w h
   text_at (Time unit) word z p w h = value_at (Time unit) word z p w h
-  text_at (Timestamp unit is_zoned) word z p w h = value_at (Timestamp unit is_zoned) word z p w h
+  text_at (Timestamp unit false) word z p w h = value_at (Timestamp unit false) word z p w h
+  text_at (Timestamp unit true) word z p w h =
+      let first = (say (Timestamp unit true) word z).1 w in
+      one_position _ _ (sym (ap (λ (o : Option ℤ). option_map (λ (y : ℤ). exactly (logical_cell t (timestamps unit true) y)) (option_or o (storage_in (timestamps unit false) word))) first) ∙ h)
 
 -- a literal that writes a value of the type stands at it
 pub stands_at : TypesSay → WordsSay → (l : LogicalType) (n : Nullability) (tree : LiteralTree) (word : List ℕ) (z : ℤ) (p : PositionTree) → Writes l word z

@@ -27,7 +27,7 @@ use Rattle.vortex_filter.specs.CheckSteps.{holds_strings}
 use Rattle.filter_sql.specs.ColumnNames.{ColumnTree, column_named, column_there, typed_place, or_numbered, named_place}
 use Rattle.vortex_filter.specs.Formula.{Formula, negation, null_test, pattern_test, prefix_test}
 use Rattle.filter_sql.specs.Grammar.{IsPredicate, says_true, says_false, says_null, on_column, prefix_call, IsFilter, predicate, group, not_filter, one_operand, and_filter, one_conjunction, or_filter}
-use Rattle.vortex_filter.specs.Literals.{LiteralTree, null_literal, truth_literal, number_literal, text_literal, bytes_literal, bytes_cell, bytes_in, decimal_at, integer_at, integer_in, logical_cell, null_cell, number_cell, number_in, number_of_shape, position_of, storage_content, text_cell, text_in, text_of_shape, truth_cell, truth_in, written_value}
+use Rattle.vortex_filter.specs.Literals.{LiteralTree, null_literal, truth_literal, number_literal, text_literal, bytes_literal, bytes_cell, bytes_in, decimal_at, instant_in, integer_at, integer_in, logical_cell, null_cell, number_cell, number_in, number_of_shape, position_of, storage_content, text_cell, text_in, text_of_shape, truth_cell, truth_in, written_value}
 use Rattle.vortex_filter.specs.Positions.{PositionTree, exactly, just_above, lacking, comparison_of, member_among, prefix_of, range_of}
 use Rattle.filter_sql.specs.Literals.{Condition, compared, missing, listed, between, begun, alike, denied, formula_in, like_test, positions_of, prefix_asked, prefix_or}
 use Rattle.filter_sql.specs.Parsing.{types_of, AllOrdered}
@@ -103,7 +103,10 @@ text_shaped t float32 word p e = number_shaped t float32 word p e
 text_shaped t (decimals precision scale) word p e = number_shaped t (decimals precision scale) word p e
 text_shaped t days word p e = written_said t days word p e
 text_shaped t (times unit) word p e = written_said t (times unit) word p e
-text_shaped t (timestamps unit zoned) word p e = written_said t (timestamps unit zoned) word p e
+text_shaped t (timestamps unit false) word p e = written_said t (timestamps unit false) word p e
+text_shaped t (timestamps unit true) word p e =
+    mapped_said t (λ (z : ℤ). exactly (logical_cell t (timestamps unit true) z)) (instant_in unit word) p
+    (λ z. (refl, stored_untyped (stored_as (timestamps unit true)) z)) e
 
 number_said : (t : TypeTree) (word : List ℕ) (p : PositionTree) → number_in t word ≡ Some p → IsSaidIn t p
 number_said (integer_type k n) word p e = integers_said k n word p e

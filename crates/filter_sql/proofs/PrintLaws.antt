@@ -46,7 +46,7 @@ use Rattle.filter_sql.specs.ColumnNames.{ColumnTree}
 use Rattle.vortex_filter.specs.Formula.{Formula, constant, comparison, null_test, membership, range, prefix_test, pattern_test, both, either, negation}
 use Rattle.filter_sql.specs.Grammar.{AreLiterals, one_literal, more_literals, IsTest, in_nothing, in_literals, between_literals, IsEscape, unescaped, escaped_by, like_pattern, ilike_pattern, IsCondition, compares, is_null, is_not_null, bare_test, not_test, IsPredicate, says_true, says_false, says_null, on_column, prefix_call, IsFilter, predicate, group, not_filter, one_operand, and_filter, one_conjunction, or_filter}
 use Rattle.vortex_filter.specs.CheckSteps.{holds_strings}
-use Rattle.vortex_filter.specs.Literals.{LiteralTree, decimal_at, integer_at, integer_in, logical_cell, number_of_shape, null_literal, truth_literal, number_literal, text_literal, bytes_literal, null_cell, truth_cell, number_cell, text_cell, bytes_cell, position_of, storage_content, text_of_shape}
+use Rattle.vortex_filter.specs.Literals.{LiteralTree, decimal_at, integer_at, integer_in, logical_cell, number_of_shape, null_literal, truth_literal, number_literal, text_literal, bytes_literal, null_cell, truth_cell, number_cell, option_or, text_cell, bytes_cell, position_of, storage_content, text_of_shape}
 use Rattle.vortex_filter.specs.Positions.{PositionTree, exactly, lacking, cells_of, comparison_of, member_among, member_of}
 use Rattle.filter_sql.specs.Literals.{Condition, compared, missing, listed, between, alike, denied, formula_in, literal_of, positions_of, prefix_or}
 use Rattle.filter_sql.specs.Parsing.{IsValueLiteral, IsLiteral, IsFound, IsMoreThanPrefix, IsReadable, depth, depth_at}
@@ -153,7 +153,9 @@ text_stands t Float32 word z e = number_stands t Float32 word z refl e
 text_stands t (Decimal d) word z e = number_stands t (Decimal d) word z refl e
 text_stands t Date word z e = ap (option_map (λ (y : ℤ). exactly (logical_cell t days y))) e
 text_stands t (Time unit) word z e = ap (option_map (λ (y : ℤ). exactly (logical_cell t (times unit) y))) e
-text_stands t (Timestamp unit zoned) word z e = ap (option_map (λ (y : ℤ). exactly (logical_cell t (timestamps unit zoned) y))) e
+text_stands t (Timestamp unit false) word z e = ap (option_map (λ (y : ℤ). exactly (logical_cell t (timestamps unit false) y))) e
+text_stands t (Timestamp unit true) word z e =
+    ap (λ (o : Option ℤ). option_map (λ (y : ℤ). exactly (logical_cell t (timestamps unit true) y)) (option_or o (storage_in (timestamps unit false) word))) e
 
 same_cell : (x y : Cell) → x.typed ≡ y.typed → x.content ≡ y.content → x ≡ y
 same_cell x y e f =

@@ -1,5 +1,5 @@
 -- Literals in columns of logical types.
-use Rattle.std.proofs.Common.{◌≡◌, ◌↔◌, ◌&&◌, ◌+ℤ◌, Bool, true, false, cond, pos, ℤ, List, ℕ, Option, Some, None, Result, IfOk, option_and_then, option_map, refl, sym, subst, ap, ap₂, ◌∙◌}
+use Rattle.std.proofs.Common.{◌≡◌, ◌↔◌, ◌&&◌, ◌+ℤ◌, IfNone, IfSome, Bool, true, false, cond, pos, ℤ, List, ℕ, Option, Some, None, Result, IfOk, option_and_then, option_map, refl, sym, subst, ap, ap₂, ◌∙◌}
 use Rattle.vortex_dtype.specs.TypeTree.{TypeTree}
 use Rattle.vortex_dtype.specs.declared.ptype.PType.{PType}
 use Rattle.std.specs.Ordering.{int_cmp}
@@ -14,17 +14,18 @@ use Rattle.vortex_cells.specs.Cells.{Cell, cell_of}
 use Rattle.logical_scalars.specs.Stored.{IsOfLogicalType, raw_storage}
 use Rattle.logical_scalars.specs.TypeShapes.{shape_in}
 use Rattle.logical_types.specs.Extensions.{storage_type_of}
-use Rattle.logical_types.specs.Shapes.{Shape, place_in, shape_of, storage_in, stored_as}
+use Rattle.logical_types.specs.Shapes.{Shape, place_in, shape_of, storage_in, stored_as, timestamps}
 use Rattle.logical_types.specs.Words.{Writes}
 use Rattle.logical_types.specs.declared.decimals.places.DecimalPlace.{DecimalPlace}
 use Rattle.logical_types.specs.declared.extensions.StorageType.{StorageType}
 use Rattle.logical_types.specs.declared.extensions.StorageType.TheVariants.{I32, I64, Bytes}
 use Rattle.logical_types.specs.declared.logical.LogicalType.{LogicalType}
 use Rattle.logical_types.specs.declared.logical.LogicalType.TheVariants.{Float64, Float32, Decimal, Date, Time, Timestamp}
+use Rattle.logical_types.specs.declared.times.TimeUnit.{TimeUnit}
 use Rattle.logical_types.specs.declared.times.TimeUnit.TheVariants.{Seconds, Milliseconds, Microseconds, Nanoseconds}
 use Rattle.vortex_filter.specs.declared.error.FilterError.{FilterError}
 use Rattle.vortex_filter.specs.declared.literals.Position.{Position}
-use Rattle.vortex_filter.specs.Literals.{gap_position, integer_at, integer_in, logical_cell, number_cell, storage_content, written_value}
+use Rattle.vortex_filter.specs.Literals.{gap_position, instant_in, integer_at, integer_in, logical_cell, number_cell, option_or, storage_content, written_value}
 use Rattle.vortex_filter.specs.Positions.{PositionTree, exactly, just_above, lacking, position_tree}
 
 -- ---- the shape of a type
@@ -90,6 +91,25 @@ word_absent says t l word none = by_storage (storage_in (shape_of l) word) refl
     by_storage : (o : Option ℤ) → storage_in (shape_of l) word ≡ o → ◌≡◌ {A = Option PositionTree} None (option_map (λ (y : ℤ). exactly (logical_cell t (shape_of l) y)) (storage_in (shape_of l) word))
     by_storage None h = sym (ap (option_map (λ (y : ℤ). exactly (logical_cell t (shape_of l) y))) h)
     by_storage (Some z) h = absurd (none z ((says l word z).0 h))
+
+nothing_written : WordsSay → (l : LogicalType) (word : List ℕ) → ((z : ℤ) → Writes l word z → ⊥) → storage_in (shape_of l) word ≡ None
+nothing_written says l word none = by_storage (storage_in (shape_of l) word) refl
+  where
+    by_storage : (o : Option ℤ) → storage_in (shape_of l) word ≡ o → o ≡ None
+    by_storage None h = refl
+    by_storage (Some z) h = absurd (none z ((says l word z).0 h))
+
+pub instant_zoned : WordsSay → (unit : TimeUnit) (word : List ℕ) (z : ℤ) → Writes (Timestamp unit true) word z → Some z ≡ instant_in unit word
+instant_zoned says unit word z w = sym (ap (λ (o : Option ℤ). option_or o (storage_in (timestamps unit false) word)) ((says (Timestamp unit true) word z).1 w))
+
+pub instant_plain : WordsSay → (unit : TimeUnit) (word : List ℕ) (r : Option ℤ) → ((z : ℤ) → Writes (Timestamp unit true) word z → ⊥)
+    → IfSome r (Writes (Timestamp unit false) word) → IfNone r ((z : ℤ) → ¬ (Writes (Timestamp unit false) word z)) → r ≡ instant_in unit word
+instant_plain says unit word r none some lacks =
+    plain r some lacks ∙ sym (ap (λ (o : Option ℤ). option_or o (storage_in (timestamps unit false) word)) (nothing_written says (Timestamp unit true) word none))
+  where
+    plain : (o : Option ℤ) → IfSome o (Writes (Timestamp unit false) word) → IfNone o ((z : ℤ) → ¬ (Writes (Timestamp unit false) word z)) → o ≡ storage_in (timestamps unit false) word
+    plain None some lacks = sym (nothing_written says (Timestamp unit false) word lacks)
+    plain (Some z) some lacks = sym ((says (Timestamp unit false) word z).1 some)
 
 -- ---- places
 

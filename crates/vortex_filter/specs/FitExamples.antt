@@ -174,11 +174,25 @@ a_day : position_of days_column (text_literal (codes "2026-03-01")) ≡ Some (ex
 unfolding on_words
 a_day = refl
 
--- a date alone is a day, and its midnight where the column has no zone
+-- a date alone is a day, and its midnight in a column of timestamps
 midnight : position_of millis_column (text_literal (codes "2026-03-01")) ≡ Some (exactly (record { typed = millis_column; content = whole (pos 1772323200000) }))
 unfolding on_words
 midnight = refl
 
-no_midnight : position_of zoned_column (text_literal (codes "2026-03-01")) ≡ None
+-- in a column with a zone a time, or a date alone, without `Z` and offset is in UTC
+midnight_in_utc : position_of zoned_column (text_literal (codes "2026-03-01")) ≡ Some (exactly (record { typed = zoned_column; content = whole (pos 1772323200000) }))
 unfolding on_words
-no_midnight = refl
+midnight_in_utc = refl
+
+time_in_utc : position_of zoned_column (text_literal (codes "2026-03-01 14:00")) ≡ Some (exactly (record { typed = zoned_column; content = whole (pos 1772373600000) }))
+unfolding on_words
+time_in_utc = refl
+
+with_offset : position_of zoned_column (text_literal (codes "2026-03-01T15:00:00+01:00")) ≡ Some (exactly (record { typed = zoned_column; content = whole (pos 1772373600000) }))
+unfolding on_words
+with_offset = refl
+
+-- a time with a zone is none of a column without one
+no_instant : position_of millis_column (text_literal (codes "2026-03-01T14:00:00Z")) ≡ None
+unfolding on_words
+no_instant = refl

@@ -1,5 +1,5 @@
 -- Literals as they are written, before a column gives them a type, and where they stand among the values of a type.
-use Rattle.std.specs.Prelude.{ℕ, ℤ, pos, ◌+ℤ◌, ◌&&◌, Bool, List, [], Option, Some, None, option_and_then, option_map, if◌then◌else◌}
+use Rattle.std.specs.Prelude.{ℕ, ℤ, pos, ◌+ℤ◌, ◌&&◌, Bool, true, false, List, [], Option, Some, None, option_and_then, option_map, if◌then◌else◌}
 use Rattle.std.specs.Ordering.{int_cmp}
 use Rattle.std.specs.declared.cmp.Ordering.TheVariants.{Less, Greater}
 use Rattle.vortex_dtype.specs.TypeTree.{IsFlat, TypeTree, as_nullable, bool_type, integer_type, utf8_type, binary_type, extension_type}
@@ -16,6 +16,7 @@ use Rattle.logical_types.specs.declared.decimals.places.DecimalPlace.{DecimalPla
 use Rattle.logical_types.specs.declared.decimals.places.DecimalPlace.TheVariants.{At, Behind, BelowAll, AboveAll}
 use Rattle.logical_types.specs.declared.extensions.StorageType.{StorageType}
 use Rattle.logical_types.specs.declared.extensions.StorageType.TheVariants.{I32, I64, Bytes}
+use Rattle.logical_types.specs.declared.times.TimeUnit.{TimeUnit}
 use Rattle.vortex_filter.specs.declared.literals.Literal.{Literal}
 use Rattle.vortex_filter.specs.declared.literals.Literal.TheVariants as literals
 use Rattle.vortex_filter.specs.declared.literals.Position.{Position}
@@ -100,11 +101,21 @@ number_of_shape t float32 word = written_value t float32 word
 number_of_shape t (decimals precision scale) word = option_map (decimal_at t (decimals precision scale)) (place_in precision scale word)
 number_of_shape t _ word = None
 
+-- the first of two that is there
+abbrev pub option_or : Option ℤ → Option ℤ → Option ℤ
+option_or (Some z) o = Some z
+option_or None o = o
+
+-- the storage of the instant that a text writes: what it says with `Z` or an offset, or else what it says without, in UTC
+abbrev pub instant_in : TimeUnit → List ℕ → Option ℤ
+instant_in unit word = option_or (storage_in (timestamps unit true) word) (storage_in (timestamps unit false) word)
+
 -- a string in a column of a logical type: in one of numbers it is its number
 abbrev pub text_of_shape : TypeTree → Shape → List ℕ → Option PositionTree
 text_of_shape t days word = written_value t days word
 text_of_shape t (times unit) word = written_value t (times unit) word
-text_of_shape t (timestamps unit is_zoned) word = written_value t (timestamps unit is_zoned) word
+text_of_shape t (timestamps unit false) word = written_value t (timestamps unit false) word
+text_of_shape t (timestamps unit true) word = option_map (λ z. exactly (logical_cell t (timestamps unit true) z)) (instant_in unit word)
 text_of_shape t s word = number_of_shape t s word
 
 -- ---- where a literal stands

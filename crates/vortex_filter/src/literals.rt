@@ -1,13 +1,13 @@
 //! Literals as they are written, and where they stand among the values of a column's type.
 
-ghost use Rattle.std.specs.Prelude.{◌≡◌, ◌<◌, ◌^◌, IfErr, IfOk, MatchResult, Some, option_map, unsigned_abs};
+ghost use Rattle.std.specs.Prelude.{◌≡◌, ◌<◌, ◌^◌, IfErr, IfOk, IfSome, MatchResult, Some, option_map, true, unsigned_abs};
 ghost use Rattle.logical_scalars.specs.Stored.{IsOfLogicalType};
-ghost use Rattle.logical_types.specs.Shapes.{IsAmong, shape_of};
+ghost use Rattle.logical_types.specs.Shapes.{IsAmong, shape_of, timestamps};
 ghost use Rattle.logical_types.specs.Words.{IsStorageOf};
 ghost use Rattle.vortex_dtype.specs.TypeTree.{IsFlat};
 ghost use Rattle.vortex_filter.specs.FilterLiterals.{AreValid};
 ghost use Rattle.logical_types.specs.declared.logical.LogicalType.TheVariants as LogicalTypes;
-ghost use Rattle.vortex_filter.specs.Literals.{AsksMemory, bytes_in, decimal_at, gap_position, integer_at, integer_in};
+ghost use Rattle.vortex_filter.specs.Literals.{AsksMemory, bytes_in, decimal_at, gap_position, instant_in, integer_at, integer_in};
 ghost use Rattle.vortex_filter.specs.Literals.{integer_position, literal_tree, logical_cell, null_cell};
 ghost use Rattle.vortex_filter.specs.Literals.{number_in, number_of_shape, number_of_type, position_of, scalars_in};
 ghost use Rattle.vortex_filter.specs.Literals.{text_cell, text_in, text_of_shape, text_of_type, truth_in};
@@ -19,7 +19,7 @@ use crate::error::FilterError;
 use logical_scalars::laws::shapes_say_types;
 use logical_scalars::{logical_type_of, scalar_of_column};
 use logical_types::{
-    DecimalPlace, DecimalType, LogicalType, laws, place_among_values, storage_of_word,
+    DecimalPlace, DecimalType, LogicalType, TimeUnit, laws, place_among_values, storage_of_word,
 };
 use std::alloc::Global;
 use std::cmp::Ordering;
@@ -36,7 +36,8 @@ pub enum Literal<'a> {
     Bool(bool),
     /// A number, by its word: `10`, `-0.5`, `1e30`.
     Number(&'a str),
-    /// A string. In a column of numbers, days or times it is the value that it writes.
+    /// A string. In a column of numbers, days or times it is the value that it writes, in one with a zone
+    /// in UTC if it has neither `Z` nor an offset.
     Text(&'a str),
     /// Bytes.
     Bytes(&'a [u8]),
@@ -391,12 +392,63 @@ fn text_of_logical(
         × AsksMemory (text_of_shape (type_of dtype.now) (shape_of logical) text.now)) }
 {
     match logical {
+        LogicalType::Timestamp {
+            unit,
+            is_zoned: true,
+        } => instant(alloc, dtype, unit, text),
         LogicalType::Date | LogicalType::Time(_) | LogicalType::Timestamp { .. } => {
             written(alloc, dtype, logical, text)
         }
         LogicalType::Float64 | LogicalType::Float32 | LogicalType::Decimal(_) => {
             number_of_logical(alloc, dtype, logical, text)
         }
+    }
+}
+
+/// The instant that a text writes, in a column with a zone.
+fn instant(
+    alloc: Global,
+    dtype: &DType,
+    unit: TimeUnit,
+    text: &str,
+) -> Result<Option<Position>, FilterError>
+    requires { IsOfLogicalType (type_of dtype.now) (LogicalTypes.Timestamp unit true) }
+    ensures value { IfOk result (λ found. option_map position_tree found
+        ≡ text_of_shape (type_of dtype.now) (timestamps unit true) text.now) }
+    ensures valid { IfOk result (λ found. AreValid (scalars_in found)) }
+    ensures refused { IfErr result (λ e. (e ≡ OutOfMemory)
+        × AsksMemory (text_of_shape (type_of dtype.now) (timestamps unit true) text.now)) }
+{
+    let zoned = LogicalType::Timestamp {
+        unit,
+        is_zoned: true,
+    };
+    match instant_in(unit, text) {
+        Some(storage) => match logical_scalar(alloc, dtype, zoned, storage) {
+            Ok(scalar) => Ok(Some(Position::Exactly(scalar))),
+            Err(cause) => Err(cause),
+        },
+        None => Ok(None),
+    }
+}
+
+/// The storage of the instant that a text writes: in UTC, if it has neither `Z` nor an offset.
+fn instant_in(unit: TimeUnit, text: &str) -> Option<i128>
+    ensures value { result ≡ instant_in unit text.now }
+    ensures stored { IfSome result (IsStorageOf (LogicalTypes.Timestamp unit true)) }
+{
+    laws::shapes_say_words();
+    let zoned = LogicalType::Timestamp {
+        unit,
+        is_zoned: true,
+    };
+    let plain = LogicalType::Timestamp {
+        unit,
+        is_zoned: false,
+    };
+    match storage_of_word(zoned, text.as_bytes()) {
+        Some(storage) => Some(storage),
+        None => storage_of_word(plain, text.as_bytes()),
     }
 }
 
