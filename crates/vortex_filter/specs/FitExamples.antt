@@ -188,9 +188,9 @@ time_in_utc : position_of zoned_column (text_literal (codes "2026-03-01 14:00"))
 unfolding on_words
 time_in_utc = refl
 
-with_offset : position_of zoned_column (text_literal (codes "2026-03-01T15:00:00+01:00")) ≡ Some (exactly (record { typed = zoned_column; content = whole (pos 1772373600000) }))
+with_zone : position_of zoned_column (text_literal (codes "2026-03-01T14:00:00Z")) ≡ Some (exactly (record { typed = zoned_column; content = whole (pos 1772373600000) }))
 unfolding on_words
-with_offset = refl
+with_zone = refl
 
 -- a time with a zone is none of a column without one
 no_instant : position_of millis_column (text_literal (codes "2026-03-01T14:00:00Z")) ≡ None
