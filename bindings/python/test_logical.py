@@ -421,6 +421,14 @@ class OfLiterals(unittest.TestCase):
             with self.assertRaises(error):
                 literal(value)
 
+    def test_times_without_a_zone(self) -> None:
+        utc = timezone.utc
+        moments = [datetime(2026, 3, 1, 14, tzinfo=utc), datetime(2026, 3, 1, 15, tzinfo=OSLO), datetime(2026, 3, 1, 14, tzinfo=OSLO), None]
+        wanted = Filter("at between '2026-03-01 14:00' and '2026-03-01T15:00:00Z'", {"at": "timestamp(us,UTC)"})
+        self.assertEqual(list(wanted.mask({"at": moments})), [True, True, False, False])
+        with self.assertRaises(doqallin.BadFilter):
+            Filter("at < '2026-03-01T15:00:00Z'", {"at": "timestamp(us)"})
+
     def test_literals_between_values(self) -> None:
         fares = {"fare": [Decimal("12.34"), Decimal("12.35"), None]}
         for text, matches in [

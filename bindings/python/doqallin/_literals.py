@@ -17,7 +17,8 @@ def literal(value: object) -> str:
     """The value as the text of a filter has it.
 
     It takes None, `bool`, `int`, `float`, `str`, `bytes`, `Decimal`, `date`, `time` and `datetime`. Quotes in strings are doubled,
-    so that no string ends early. What a literal means, its column says: of `decimal(10,2)` 10.5 is 10.50, of `f32` it is a float.
+    so that no string ends early. What a literal means, its column says: of `decimal(10,2)` 10.5 is 10.50, of `f32` it is a float,
+    and of timestamps with a zone a `datetime` without one is in UTC.
     Raises NotAValue of a decimal that is no number.
 
     >>> from datetime import date
