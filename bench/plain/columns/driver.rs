@@ -31,6 +31,8 @@ const UTF8: u8 = 9;
 const BINARY: u8 = 11;
 const F32: u8 = 14;
 const F64: u8 = 15;
+const DATE32: u8 = 16;
+const DECIMAL128: u8 = 31;
 
 /// Numbers that look random.
 struct Chance(u64);
@@ -51,6 +53,8 @@ struct Data {
     narrow: Vec<i32>,
     doubles: Vec<f64>,
     singles: Vec<f32>,
+    dates: Vec<i32>,
+    long: Vec<i128>,
     bytes: Vec<u8>,
     offsets: Vec<u32>,
 }
@@ -59,7 +63,7 @@ fn data(what: &str, count: usize) -> Data {
     let mut chance = Chance(88172645463325252);
     let begin: &[u8] = if what.starts_with("alike") { b"the same first 24 bytes " } else { b"" };
     let fitting = what.starts_with("cast") || what.starts_with("front");
-    let mut made = Data { bits: vec![], wide: vec![], narrow: vec![], doubles: vec![], singles: vec![], bytes: vec![], offsets: vec![0] };
+    let mut made = Data { bits: vec![], wide: vec![], narrow: vec![], doubles: vec![], singles: vec![], dates: vec![], long: vec![], bytes: vec![], offsets: vec![0] };
     for _ in 0..count {
         let number = chance.next() as i64;
         made.wide.push(if fitting { number >> 33 } else { number });
@@ -67,6 +71,8 @@ fn data(what: &str, count: usize) -> Data {
         let float = float_of(number);
         made.doubles.push(float);
         made.singles.push(float as f32);
+        made.dates.push((number >> 48) as i32);
+        made.long.push(i128::from(number));
         made.bytes.extend_from_slice(begin);
         let rest = chance.next();
         if let Some(word) = word(what, rest) {
@@ -160,6 +166,7 @@ macro_rules! plain_extremes {
 
 plain_extremes!(plain_i64, i64);
 plain_extremes!(plain_i32, i32);
+plain_extremes!(plain_i128, i128);
 
 /// Extremes of floats, as the integers that sort as they do: both zeros are 0, and NaN is above infinity.
 macro_rules! plain_float_extremes {
@@ -233,7 +240,7 @@ fn plain_cast(bits: Option<&[u8]>, values: &[i64], room: &mut [i32]) -> Result<(
 }
 
 /// Statistics of numbers, as columns_statistics writes them.
-fn told<T: Into<i64>>((nulls, extremes): (u64, Option<(T, T)>)) -> [u64; 3] {
+fn told<T: Into<i128>>((nulls, extremes): (u64, Option<(T, T)>)) -> [u64; 3] {
     let (least, greatest) = extremes.map_or((0, 0), |(least, greatest)| (least.into() as u64, greatest.into() as u64));
     [nulls, least, greatest]
 }
@@ -323,11 +330,13 @@ fn main() {
         "i32" => (I32, bytes_of(&data.narrow)),
         "f64" => (F64, bytes_of(&data.doubles)),
         "f32" => (F32, bytes_of(&data.singles)),
+        "date32" => (DATE32, bytes_of(&data.dates)),
+        "decimal128" => (DECIMAL128, bytes_of(&data.long)),
         _ if what.contains("letters") => (UTF8, data.bytes.as_slice()),
         _ => (BINARY, data.bytes.as_slice()),
     };
     let (validity, offsets) = (bits.unwrap_or(&[]), bytes_of(&data.offsets));
-    let column = Column { kind: code, precision: 0, scale: 0, validity, values, offsets, offset: 0, length: count };
+    let column = Column { kind: code, precision: 38, scale: 2, validity, values, offsets, offset: 0, length: count };
     let mut room = vec![0i32; count];
     let mut out = [0u64; 3];
     let mut status = 0;
@@ -352,6 +361,8 @@ fn main() {
             (false, "i32") => out = told(plain_i32(bits, &data.narrow)),
             (false, "f64") => out = told(plain_f64(bits, &data.doubles)),
             (false, "f32") => out = told(plain_f32(bits, &data.singles)),
+            (false, "date32") => out = told(plain_i32(bits, &data.dates)),
+            (false, "decimal128") => out = told(plain_i128(bits, &data.long)),
             (false, "cast" | "front") => status = plain_cast(bits, &data.wide, &mut room).map_or_else(|row| row as u32 + 1, |()| 0),
             (false, "check") => {}
             (false, _) => {
