@@ -10,14 +10,13 @@ import os
 from collections.abc import Iterable, Iterator, Mapping
 from typing import Any, NamedTuple
 
-from ._columns import Column, joined
 from ._errors import BadIndex, BadRecord, KindsDiffer, NoColumn, StaleIndex
+from ._found import Reader, Rows, places_of, together, word_of
 from ._indexes import BOUNDS, ROWS, Maker, Progress, sized, telling, write
 from ._library import Position, RawZone
 from ._searches import ALL_MATCH, EVERY_ROW, SKIP, UNKNOWN, WHOLE, Index, Match, guessed, matching
-from ._tables import Table, of_columns
+from ._tables import Table, table_of
 from ._types import DType
-from ._words import Rows, places_of, word_of
 
 __all__ = ["Files", "FileZone", "index", "open"]
 
@@ -155,13 +154,29 @@ class _File:
 
     def matches_in(self, zones: Iterable[RawZone], words: str, is_count: bool = False) -> Iterator[tuple[bytes, int, list[Match]]]:
         """The same of the zones of a plan."""
+        for text, first, asked in self._texts_of(zones, words, is_count):
+            for found in matching(self.setup, asked, text, Position(first.place, first.number + 1), True):
+                yield text, first.place, found
+
+    def _texts_of(self, zones: Iterable[RawZone], words: str, is_count: bool = False) -> Iterator[tuple[bytes, RawZone, str]]:
+        """The texts of a plan's zones that are to be read, the first zone of each, and what is sought in it."""
         for run in _runs(zones, is_count):
             first, last = run[0], run[-1]
             text = self.source.read(first.place, last.place + last.length - first.place)
-            position = Position(first.place, first.number + 1)
-            asked = EVERY_ROW if first.way == WHOLE and not is_count else words
-            for found in matching(self.setup, asked, text, position, True):
-                yield text, first.place, found
+            yield text, first, EVERY_ROW if first.way == WHOLE and not is_count else words
+
+    def rows(self, words: str, reader: Reader) -> Iterator[Rows]:
+        """The columns of the rows that match, some at a time. A zone whose records all match is not searched."""
+        if self.index is None:
+            for text, start, found in self._of_whole_file(words):
+                yield reader.read_each(text, start, found)
+            return
+        for text, first, asked in self._texts_of(self.index.plan(words).zones, words):
+            if asked == EVERY_ROW:
+                yield reader.read(text)
+                continue
+            for found in matching(self.setup, asked, text, Position(first.place, first.number + 1), True):
+                yield reader.read_each(text, first.place, found)
 
     def _of_whole_file(self, words: str) -> Iterator[tuple[bytes, int, list[Match]]]:
         position, text, read = Position(self.start, 1), b"", self.start
@@ -317,46 +332,65 @@ class Files:
                 for one in found:
                     yield text[one.offset - start : one.offset - start + one.length]
 
-    def batches(self, where: str = EVERY_ROW, columns: Iterable[str] | None = None, rows: int = _ROWS) -> Iterator[Table]:
-        """The rows that match, so many in each table; the last one may have fewer. No table is empty."""
-        wanted = None if columns is None else list(columns)
+    def _rows(self, where: str, wanted: list[str] | None) -> Iterator[tuple[list[str], Rows]]:
+        """The names of the columns, and the rows that match, some at a time; first of all none."""
         first: dict[str, str] | None = None
-        parts: list[dict[str, Column]] = []
-        count = 0
         for file in self._files:
-            found = Rows(file.setup, places_of(file.setup, wanted))
-            kinds = {name: file.setup.columns[name] for name in found.places}
-            first = kinds if first is None else first
+            places = places_of(file.setup, wanted)
+            kinds = {name: file.setup.columns[name] for name in places}
+            reader = Reader(file.setup, places.values())
+            if first is None:
+                first = kinds
+                yield list(kinds), reader.none()
             if kinds != first:
                 raise KindsDiffer(f"{file.source.name} has the columns {kinds}, and {self._files[0].source.name} {first}: open them with columns=")
-            for text, start, matches in file.matches(where):
-                for one in matches:
-                    found.add(text[one.offset - start : one.offset - start + one.length])
-                    if count + found.count == rows:
-                        yield _table([*parts, found.columns()])
-                        parts, count = [], 0
-            if found.count:
-                count += found.count
-                parts.append(found.columns())
+            for rows in file.rows(where, reader):
+                yield list(kinds), rows
+
+    def batches(self, where: str = EVERY_ROW, columns: Iterable[str] | None = None, rows: int = _ROWS) -> Iterator[Table]:
+        """The rows that match, so many in each table; the last one may have fewer. No table is empty.
+
+        Nothing is kept but the rows of one table, and one piece of a file with the rows in it. A record that is refused is told
+        behind the tables of the rows before it.
+        """
+        if rows < 1:
+            raise ValueError(f"a table has one row at least, not {rows}")
+        names: list[str] = []
+        parts: list[Rows] = []
+        count = 0
+        try:
+            for names, found in self._rows(where, _listed(columns)):
+                while count + found.row_count >= rows:
+                    taken = rows - count
+                    yield _table(names, [*parts, found.cut(0, taken)])
+                    found, parts, count = found.cut(taken, found.row_count), [], 0
+                if found.row_count:
+                    parts.append(found)
+                    count += found.row_count
+        except BadRecord:
+            if parts:
+                yield _table(names, parts)
+            raise
         if parts:
-            yield _table(parts)
+            yield _table(names, parts)
 
     def __iter__(self) -> Iterator[Table]:
         return self.batches()
 
     def find(self, where: str = EVERY_ROW, columns: Iterable[str] | None = None) -> Table:
         """The rows that match, as a table of these columns, or of all."""
-        wanted = None if columns is None else list(columns)
-        found = [dict(batch) for batch in self.batches(where, wanted)]
-        return _table(found or [Rows(self._files[0].setup, places_of(self._files[0].setup, wanted)).columns()])
+        found = list(self._rows(where, _listed(columns)))
+        return _table(found[0][0], [rows for _, rows in found if rows.row_count] or [found[0][1]])
 
     def head(self, rows: int = 5, where: str = EVERY_ROW, columns: Iterable[str] | None = None) -> Table:
         """The first rows that match."""
-        wanted = None if columns is None else list(columns)
+        wanted = _listed(columns)
         if rows > 0:
             for batch in self.batches(where, wanted, rows):
                 return batch
-        return _table([Rows(self._files[0].setup, places_of(self._files[0].setup, wanted)).columns()])
+        for names, none in self._rows(where, wanted):
+            return _table(names, [none])
+        raise NoColumn("there is no file")
 
     def count(self, where: str = EVERY_ROW) -> int:
         """How many rows match. A zone is not read where its statistics say that all do, or none."""
@@ -389,8 +423,16 @@ class Files:
         return f"<Files {', '.join(self.names[:3])}{', ..' if len(self.names) > 3 else ''}: {self.columns}>"
 
 
-def _table(parts: list[dict[str, Column]]) -> Table:
-    return of_columns({name: joined([part[name] for part in parts]) for name in parts[0]})
+def _listed(columns: Iterable[str] | None) -> list[str] | None:
+    """The names of columns, which are asked for more than once."""
+    if isinstance(columns, str):
+        raise TypeError("a list of names is wanted, not a str")
+    return None if columns is None else list(columns)
+
+
+def _table(names: list[str], parts: list[Rows]) -> Table:
+    columns, count = together(parts)
+    return table_of(names, columns.__getitem__, count)
 
 
 def _paths(source: Any) -> list[Any]:

@@ -13,9 +13,9 @@ from ctypes import byref, c_size_t, sizeof
 from typing import Any
 
 from . import _library
-from ._errors import BadBytes, TooManyRows
-from ._library import BAD_BYTES, BAD_OFFSETS, BUFFER_TOO_SMALL, GIVEN, IndexLengths, IndexZone, SearchFault
-from ._searches import Setup, _fails, _growing
+from ._errors import TooManyRows
+from ._library import BAD_OFFSETS, BUFFER_TOO_SMALL, GIVEN, IndexLengths, IndexZone, SearchFault
+from ._searches import Setup, _growing, failed
 
 __all__: list[str] = []
 
@@ -62,12 +62,10 @@ class Maker:
             if status != BUFFER_TOO_SMALL:
                 break
             self._most, self._room = max(self._most, lengths.zones), max(self._room, lengths.statistics)
-        if status == BAD_BYTES:
-            raise BadBytes(f"no setup: {self.setup.text.decode(errors='replace')!r}")
         if status == BAD_OFFSETS:
             raise TooManyRows("the file ends behind what 64 bits count")
         if status != GIVEN:
-            _fails(status, fault, "", self.setup)
+            raise failed(status, fault, "", self.setup)
         self._zones += memoryview(zones).cast("B")[: lengths.zones * sizeof(IndexZone)]
         self._statistics += memoryview(statistics).cast("B")[: lengths.statistics]
         self.nulls += lengths.nulls
@@ -90,7 +88,7 @@ class Maker:
         length = 96 + len(setup) + len(statistics) + 32 * count + 40 * len(self.setup.columns)
         status, buffer, written = _growing(call, ctypes.c_uint8, length)
         if status != GIVEN:
-            _fails(status, fault, "", self.setup)
+            raise failed(status, fault, "", self.setup)
         return bytes(memoryview(buffer).cast("B")[:written])
 
 
