@@ -553,7 +553,7 @@ class OfTables(unittest.TestCase):
             line = "".join(chance.choices('ab",', k=chance.randrange(1, 8)))
             fields = next(csv.reader([line]))
             if line.count('"') % 2 == 0:
-                found = doqallin.open(io.BytesIO(line.encode() + b"\n"), columns={str(place): "utf8" for place in range(len(fields))}).find()
+                found = doqallin.open(io.BytesIO(line.encode()), columns={str(place): "utf8" for place in range(len(fields))}).find()
                 self.assertEqual([found[name][0] for name in found], fields, line)
 
 
