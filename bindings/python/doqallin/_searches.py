@@ -56,15 +56,16 @@ class Setup:
 
     text: bytes
     delimiter_byte: int
+    bound_length: int
     zone_rows: int
     columns: dict[str, str]
 
     @classmethod
     def of(cls, text: bytes) -> Setup:
         numbers, *named = [line for line in text.split(b"\n")[:-1] if not line.startswith(b"null ")]
-        delimiter, _, _, zone_rows = map(int, numbers.split(b" "))
+        delimiter, _, bound_length, zone_rows = map(int, numbers.split(b" "))
         kinds = [line.decode().partition(" ")[::2] for line in named]
-        return cls(text, delimiter, zone_rows, {name: kind for kind, name in kinds})
+        return cls(text, delimiter, bound_length, zone_rows, {name: kind for kind, name in kinds})
 
 
 def failed(status: int, fault: SearchFault, words: str, setup: Setup | None = None) -> DoqallinError:
@@ -145,9 +146,25 @@ class Index:
             raise failed(status, fault, words)
         return b"".join(self._read(part.place, part.length) for part in ranges[:count])
 
+    def statistics(self) -> list[bytes]:
+        """The statistics of each zone: for each column a piece behind its length. A plan has tested the bytes."""
+        words = " or ".join('"{}" is null'.format(name.replace('"', '""')) for name in self.setup.columns) or EVERY_ROW
+        blocks = self._blocks(words)
+        found: list[list[bytes]] = [[] for _ in self._planned(blocks, words, False).zones]
+        place = 0
+        for _ in self.setup.columns:
+            for pieces in found:
+                end = place + 8 + int.from_bytes(blocks[place : place + 8], "little")
+                pieces.append(blocks[place:end])
+                place = end
+        return [b"".join(pieces) for pieces in found]
+
     def plan(self, words: str, is_count: bool = False) -> Plan:
         """What to do with each zone, and what to read of the file."""
-        blocks, text, fault = self._blocks(words), encoded(words), SearchFault()
+        return self._planned(self._blocks(words), words, is_count)
+
+    def _planned(self, blocks: bytes, words: str, is_count: bool) -> Plan:
+        text, fault = encoded(words), SearchFault()
         most = self.parts.zone_count or 1
         zones, ranges, lengths = (RawZone * most)(), (ByteRange * most)(), PlanLengths()
         status = _library.search_plan(
