@@ -1,12 +1,18 @@
 # SPDX-License-Identifier: Apache-2.0
 """Calls a second through the boundary, beside plain Python; columns need numpy. Where there is an aim, it stands last."""
 
+import csv
+import sqlite3
+import tempfile
 import timeit
 from array import array
+from datetime import date
+from decimal import Decimal
 from itertools import accumulate
 
 import doqallin
 from doqallin import Filter, Kind, LibraryMissing, ZoneBounds, Zones, cast, column, row_keys, scalar, sort_rows, statistics
+from doqallin._library import _folder
 
 
 def seconds(call, calls: int) -> float:
@@ -90,6 +96,33 @@ def filters() -> None:
     print(f"Python, a filter over 10,000 zones, of which {len(left)} are left: {1e3 * seconds(lambda: wanted.prune(zones), 10):.2f} ms; the aim is 2")
 
 
+def plain_table(path: str) -> dict[str, list]:
+    """The rows of Oslo, by plain Python."""
+    with open(path, newline="", encoding="utf-8") as file:
+        rows = [row for row in csv.reader(file) if row[1] == "Oslo"]
+    number, town, fare, day, word = zip(*rows)
+    return {"number": list(map(int, number)), "town": list(town), "fare": list(map(Decimal, fare)), "day": list(map(date.fromisoformat, day)), "word": list(word)}
+
+
+def files() -> None:
+    """A table of a fifth of 200,000 records, and a sum over them in SQLite, where its module loads extensions."""
+    with tempfile.TemporaryDirectory() as folder:
+        path, towns = f"{folder}/trips.csv", ("Oslo", "Bern", "Lima", "Riga", "Quito")
+        with open(path, "w", encoding="utf-8") as file:
+            file.writelines(f"{n},{towns[n * 7 % 5]},{n % 10_000 / 100},2026-03-{1 + n % 28:02},{n * 2_654_435_761 % 10**9:x}\n" for n in range(200_000))
+        ours, plain = seconds(lambda: doqallin.open(path).find("$2 = 'Oslo'"), 1), seconds(lambda: plain_table(path), 1)
+        print(f"Python, a table of 40,000 of 200,000 records: {1e3 * ours:.0f} ms, {ours / plain:.2f} of the time of csv and of values of Python")
+        store, extension = sqlite3.connect(":memory:"), _folder() / "zone_map.so"
+        if not extension.is_file() or not hasattr(store, "enable_load_extension"):
+            print("Python, SQLite: there is no zone_map.so, or sqlite3 loads no extension")
+            return
+        store.enable_load_extension(True)
+        store.execute("select load_extension(?)", (str(extension),))
+        store.execute(f"create virtual table trips using zone_map('{path}')")
+        asked = "select sum(\"$3\") from trips where \"$2\" = 'Oslo'"
+        print(f"SQLite, a sum over 40,000 of 200,000 records: {1e3 * seconds(lambda: store.execute(asked).fetchall(), 1):.0f} ms")
+
+
 def scalars() -> None:
     """Scalars, by lines of the call."""
     try:
@@ -119,6 +152,7 @@ def main() -> None:
     offsets = array("Q", accumulate(map(len, values), initial=0))
     columns()
     filters()
+    files()
     scalars()
     compare("a column of a million values", lambda: doqallin.column_bounds(data, offsets, 16), lambda: plain_column(data, offsets, 16), 1)
 

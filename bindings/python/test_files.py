@@ -534,9 +534,55 @@ class OfTheModule(InAFolder):
         self.assertEqual((status, told), (2, "none.csv: there is no index; `python -m doqallin index` makes one\n"))
         (self.folder / "good.csv").write_bytes(b"1,Oslo\n")
         status, _, told = self.run_module("find", "good.csv", "id = 1")
-        self.assertEqual((status, told), (2, "good.csv: the file has changed since it was indexed; index it again\n"))
+        self.assertEqual((status, told), (2, "good.csv: the file has changed since it was indexed; index it again, or say --grown or --append if it was only appended to\n"))
         (self.folder / "good.csv.zones").write_bytes(b"no index at all")
         self.assertEqual(self.run_module("find", "good.csv", "id = 1")[0], 2)
+
+
+    def test_files_that_grew(self):
+        """Rows and indexes of a file that was appended to, and refusals of one that was changed otherwise."""
+        path, index = self.folder / "grown.csv", self.folder / "grown.csv.zones"
+        first, more = b'id,city\n1,Oslo\n2,"a\nb"\n3,\n', b"4,Oslo\n5,Moss\n6,Oslo\n7,"
+        for rows in ("1", "2", "3", "1000"):
+            path.write_bytes(first)
+            subprocess.run([PROGRAM, "index", path, "--header", "--rows", rows], check=True, stderr=subprocess.DEVNULL)
+            before = index.read_bytes()
+            self.see_the_same("find", "grown.csv", "id > 1", "--grown", "--numbers")
+            path.write_bytes(first + more)
+            self.see_the_same("find", "grown.csv", "id > 1")
+            for words in [["find", "grown.csv", "city = 'Oslo'", "--numbers"], ["find", "grown.csv", "id > 2", "-H"], ["count", "grown.csv", "id >= 1"], ["count", "grown.csv", "id = 5"]]:
+                self.see_the_same(*words, "--grown")
+            with doqallin.open(path, grown=True) as files:
+                self.assertEqual(files.find("id > 2").to_pydict(), {"id": [3, 4, 5, 6, 7], "city": [None, "Oslo", "Moss", "Oslo", None]})
+                self.assertEqual((files.count("id > 2"), files.zones[-1].way), (5, "search"))
+            self.see_the_same("index", "grown.csv", "--append")
+            wanted = index.read_bytes()
+            for piece in (4 << 20, 3):
+                index.write_bytes(before)
+                with unittest.mock.patch.object(doqallin._files, "_PIECE", piece), doqallin.open(path, grown=True) as files:
+                    files.index(progress=False).close()
+                self.assertEqual(index.read_bytes(), wanted)
+            index.write_bytes(before)
+            self.assertEqual(self.run_module("index", "grown.csv", "--append"), (0, b"", ""))
+            self.assertEqual(index.read_bytes(), wanted)
+            for text in (first[:-3] + b"4,\n" + more, first[:-1] + b"7\n" + more, first[:-1], b""):
+                index.write_bytes(before)
+                path.write_bytes(text)
+                self.see_the_same("find", "grown.csv", "id > 1", "--grown")
+                self.see_the_same("index", "grown.csv", "--append")
+                with self.assertRaises(StaleIndex):
+                    doqallin.open(path, grown=True)
+        # An index that ends inside of a record.
+        for text, rest in [(b"1,a\n2,b", b"c\n"), (b'1,a\n2,"b', b'"\n'), (b"", b"1,a\n")]:
+            path.write_bytes(text)
+            subprocess.run([PROGRAM, "index", path, "--columns", "n i64, word utf8"], check=True, stderr=subprocess.DEVNULL)
+            path.write_bytes(text + rest)
+            self.see_the_same("find", "grown.csv", "n >= 1", "--grown")
+            self.see_the_same("index", "grown.csv", "--append")
+        self.see_the_same("index", "none.csv", "--append")
+        index.unlink()
+        self.see_the_same("index", "grown.csv", "--append")
+        self.assertEqual(self.run_module("index", "grown.csv", "--append", "--header")[0], 2)
 
 
 class OfTables(unittest.TestCase):
@@ -548,13 +594,13 @@ class OfTables(unittest.TestCase):
         self.assertEqual(pickle.loads(pickle.dumps(found)).to_pydict(), found.to_pydict())
 
     def test_csv_reads_the_same_fields(self):
-        from doqallin._words import _split
-
         chance = random.Random(9)
-        for _ in range(2000):
+        for _ in range(500):
             line = "".join(chance.choices('ab",', k=chance.randrange(1, 8)))
+            fields = next(csv.reader([line]))
             if line.count('"') % 2 == 0:
-                self.assertEqual([word.decode() for word, _ in _split(line.encode(), b",")], next(csv.reader([line])), line)
+                found = doqallin.open(io.BytesIO(line.encode()), columns={str(place): "utf8" for place in range(len(fields))}).find()
+                self.assertEqual([found[name][0] for name in found], fields, line)
 
 
 if __name__ == "__main__":

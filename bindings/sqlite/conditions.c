@@ -51,7 +51,7 @@ bool can_push(const struct column *column, int operator, bool has_own_order) {
         return true;
     if (is_pattern(operator))
         return column->kind == TEXT && !has_own_order;
-    return column->kind != CLOCK && !column->is_zoned && !(column->kind == TEXT && has_own_order);
+    return !(column->kind == TEXT && has_own_order);
 }
 
 static void write_name(sqlite3_str *words, const struct column *column) {
@@ -82,10 +82,15 @@ static void write_float(sqlite3_str *words, double value) {
     sqlite3_str_appendall(words, digits);
 }
 
-static bool is_day(const unsigned char *text, int length) {
-    static const char FORM[] = "dddd-dd-dd";
-    for (int place = 0; place < 10; place++)
-        if (place >= length || (FORM[place] == 'd' ? text[place] < '0' || text[place] > '9' : text[place] != '-'))
+static const char DAY[] = "dddd-dd-dd", MINUTE[] = "dd:dd";
+
+// Whether a text begins with this form, in which each d is a digit.
+static bool begins_with(const char *form, sqlite3_value *operand) {
+    if (sqlite3_value_type(operand) != SQLITE_TEXT)
+        return false;
+    const unsigned char *text = sqlite3_value_text(operand);
+    for (; *form != 0; form++, text++)
+        if (*form == 'd' ? *text < '0' || *text > '9' : *text != (unsigned char)*form)
             return false;
     return true;
 }
@@ -106,7 +111,7 @@ static bool write_literal(sqlite3_str *words, const struct column *column, sqlit
         write_float(words, sqlite3_value_double(operand));
         return true;
     case DATE:
-        if (type != SQLITE_TEXT || length != 10 || !is_day(sqlite3_value_text(operand), length))
+        if (length != sizeof DAY - 1 || !begins_with(DAY, operand))
             return false;
         sqlite3_str_appendf(words, "'%s'", sqlite3_value_text(operand));
         return true;
@@ -115,7 +120,6 @@ static bool write_literal(sqlite3_str *words, const struct column *column, sqlit
             return false;
         sqlite3_str_appendf(words, "%Q", sqlite3_value_text(operand));
         return true;
-    case HEXADECIMAL:
     case BYTES:
         if (type != SQLITE_BLOB || length > LONGEST)
             return false;
@@ -172,15 +176,17 @@ static bool write_decimals(sqlite3_str *words, const struct column *column, int 
     return true;
 }
 
-// A timestamp is compared by SQLite as the text that the file has: its day decides wherever the days differ.
-static bool write_days(sqlite3_str *words, const struct column *column, int operator, sqlite3_value *operand) {
+// SQLite compares timestamps and times of day as the text that the file has: the day, or the minute, decides wherever it differs. The
+// day is that of the text's own zone: what it is in UTC lies between those in the zones that are furthest apart.
+static bool write_moments(sqlite3_str *words, const struct column *column, int operator, sqlite3_value *operand) {
     static const char NINES[] = ".999999999";
-    const unsigned char *text = sqlite3_value_text(operand);
-    if (sqlite3_value_type(operand) != SQLITE_TEXT || !is_day(text, sqlite3_value_bytes(operand)))
+    const char *form = column->kind == CLOCK ? MINUTE : DAY, *last = column->kind == CLOCK ? ":59" : " 23:59:59";
+    if (!begins_with(form, operand))
         return false;
-    char from[16], to[40];
-    snprintf(from, sizeof from, "'%.10s'", text);
-    snprintf(to, sizeof to, "'%.10s 23:59:59%.*s'", text, column->digits > 0 ? column->digits + 1 : 0, NINES);
+    int shown = (int)strlen(form), nines = column->digits > 0 ? column->digits + 1 : 0;
+    char from[48], to[48];
+    snprintf(from, sizeof from, "'%.*s%s'", shown, sqlite3_value_text(operand), column->is_zoned ? " 00:00:00+25:59:59" : "");
+    snprintf(to, sizeof to, "'%.*s%s%.*s%s'", shown, sqlite3_value_text(operand), last, nines, NINES, column->is_zoned ? "-25:59:59" : "");
     write_ends(words, column, operator, from, to);
     return true;
 }
@@ -200,8 +206,8 @@ static bool write_wholes(sqlite3_str *words, const struct column *column, int op
 static bool write_comparison(sqlite3_str *words, const struct column *column, int operator, sqlite3_value *operand) {
     if (column->kind == DECIMAL)
         return write_decimals(words, column, operator, operand);
-    if (column->kind == TIMESTAMP)
-        return write_days(words, column, operator, operand);
+    if (column->kind == TIMESTAMP || column->kind == CLOCK)
+        return write_moments(words, column, operator, operand);
     if ((column->kind == INTEGER || column->kind == UNSIGNED) && sqlite3_value_type(operand) == SQLITE_FLOAT)
         return write_wholes(words, column, operator, sqlite3_value_double(operand));
     sqlite3_str *literal = sqlite3_str_new(NULL);
@@ -215,19 +221,34 @@ static bool write_comparison(sqlite3_str *words, const struct column *column, in
     return is_written && text != NULL;
 }
 
+// Adds a value of a list: its literal, or else both ends of what it may be.
+static bool write_value(sqlite3_str *list, const struct column *column, bool has_ends, sqlite3_value *value) {
+    if (!has_ends)
+        return write_literal(list, column, value);
+    sqlite3_str *ends = sqlite3_str_new(NULL);
+    bool is_written = write_comparison(ends, column, SQLITE_INDEX_CONSTRAINT_EQ, value);
+    char *text = sqlite3_str_finish(ends);
+    sqlite3_str_appendf(list, "(%s)", text == NULL ? "" : text);
+    sqlite3_free(text);
+    return is_written && text != NULL;
+}
+
 static bool write_list(sqlite3_str *words, const struct column *column, sqlite3_value *operand) {
+    bool has_ends = column->kind == DECIMAL || column->kind == TIMESTAMP || column->kind == CLOCK;
     sqlite3_str *list = sqlite3_str_new(NULL);
     sqlite3_value *value;
     int count = 0, status;
     bool are_written = true;
     for (status = sqlite3_vtab_in_first(operand, &value); status == SQLITE_OK && value != NULL && are_written; status = sqlite3_vtab_in_next(operand, &value)) {
-        sqlite3_str_appendall(list, count == 0 ? "(" : ", ");
-        are_written = ++count <= MOST_VALUES && write_literal(list, column, value);
+        sqlite3_str_appendall(list, count == 0 ? "(" : has_ends ? " or " : ", ");
+        are_written = ++count <= MOST_VALUES && write_value(list, column, has_ends, value);
     }
     sqlite3_str_appendall(list, ")");
     char *text = sqlite3_str_finish(list);
     are_written = are_written && count > 0 && text != NULL && status == SQLITE_DONE;
-    if (are_written)
+    if (are_written && has_ends)
+        sqlite3_str_appendf(words, "%s%s", sqlite3_str_length(words) > 0 ? " and " : "", text);
+    else if (are_written)
         write_end(words, column, "in", text);
     sqlite3_free(text);
     return are_written;

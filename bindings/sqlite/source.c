@@ -90,71 +90,99 @@ static char *copy_of(const uint8_t *text, size_t length) {
     return copy;
 }
 
-static const struct {
-    const char *word;
-    enum kind kind;
-} KINDS[] = {{"i8", INTEGER},       {"i16", INTEGER}, {"i32", INTEGER},    {"i64", INTEGER}, {"u8", INTEGER},   {"u16", INTEGER},
-             {"u32", INTEGER},      {"u64", UNSIGNED}, {"f32", FLOAT},      {"f64", FLOAT},   {"date", DATE},    {"utf8", TEXT},
-             {"binary", HEXADECIMAL}, {"bytes", BYTES},  {"decimal", DECIMAL}, {"time", CLOCK},  {"timestamp", TIMESTAMP}};
-static const struct {
-    const char *word;
-    int digits;
-} UNITS[] = {{"(s", 0}, {"(ms", 3}, {"(us", 6}, {"(ns", 9}};
+// What values of a kind are.
+static void set_kind(struct column *column, const struct doqallin_kind *kind) {
+    enum { DIGITS_OF_A_UNIT = 3 };
+    column->cell_kind = kind->code;
+    switch (kind->code) {
+    case DOQALLIN_U64:
+        column->kind = UNSIGNED;
+        return;
+    case DOQALLIN_F32:
+    case DOQALLIN_F64:
+        column->kind = FLOAT;
+        return;
+    case DOQALLIN_DECIMAL128:
+        column->kind = DECIMAL;
+        column->digits = kind->scale;
+        column->cell_kind = DOQALLIN_F64;
+        return;
+    case DOQALLIN_LARGE_UTF8:
+        column->kind = TEXT;
+        return;
+    case DOQALLIN_LARGE_BINARY:
+        column->kind = BYTES;
+        return;
+    }
+    if (kind->code < DOQALLIN_BOOL) {
+        column->kind = INTEGER;
+        return;
+    }
+    // What is left is dates, times and timestamps.
+    column->cell_kind = DOQALLIN_LARGE_UTF8;
+    column->kind = kind->code == DOQALLIN_DATE32 ? DATE : kind->code < DOQALLIN_TIMESTAMP_S ? CLOCK : TIMESTAMP;
+    column->is_zoned = kind->code >= DOQALLIN_TIMESTAMP_S_UTC;
+    if (column->kind != DATE)
+        column->digits = DIGITS_OF_A_UNIT * ((kind->code - DOQALLIN_TIME_S) % 4);
+}
 
-static bool set_kind(struct column *column, const char *word, size_t length) {
-    size_t bare = strcspn(word, "(? ");
-    column->takes_null = length > 0 && word[length - 1] == '?';
-    for (size_t k = 0; k < sizeof KINDS / sizeof *KINDS; k++)
-        if (strlen(KINDS[k].word) == bare && memcmp(KINDS[k].word, word, bare) == 0) {
-            column->kind = KINDS[k].kind;
-            const char *comma = memchr(word, ',', length);
-            column->is_single = strcmp(KINDS[k].word, "f32") == 0;
-            if (column->kind == DECIMAL && comma != NULL)
-                column->digits = atoi(comma + 1);
-            if (column->kind == TIMESTAMP) {
-                column->is_zoned = comma != NULL;
-                for (size_t u = 0; u < 4; u++)
-                    if (strncmp(word + bare, UNITS[u].word, strlen(UNITS[u].word)) == 0)
-                        column->digits = UNITS[u].digits;
-            }
-            return true;
-        }
-    return false;
+// A column's line in the setup by which its cells are read.
+static char *cell_line_of(const struct column *column, const char *line, int kind_length, int length) {
+    const char *word = column->kind == DECIMAL ? "f64" : column->cell_kind == DOQALLIN_LARGE_UTF8 ? "utf8" : NULL;
+    if (word == NULL)
+        return sqlite3_mprintf("%.*s\n", length, line);
+    return sqlite3_mprintf("%s%s%.*s\n", word, line[kind_length - 1] == '?' ? "?" : "", length - kind_length, line + kind_length);
+}
+
+static bool read_kinds(struct source *source, char **message) {
+    struct doqallin_search_fault fault = {0};
+    size_t lines = 1, count = 0;
+    for (size_t place = 0; place < source->setup.length; place++)
+        lines += source->setup.at[place] == '\n';
+    struct doqallin_kind *kinds = calloc(lines, sizeof *kinds);
+    source->columns = calloc(lines, sizeof *source->columns);
+    uint32_t status = DOQALLIN_NO_MEMORY;
+    if (kinds != NULL && source->columns != NULL)
+        status = doqallin_column_kinds(source->setup.at, source->setup.length, kinds, lines, &count, &fault);
+    for (size_t place = 0; status == DOQALLIN_GIVEN && place < count; place++)
+        set_kind(&source->columns[place], &kinds[place]);
+    free(kinds);
+    return status == DOQALLIN_GIVEN || refuses(source, status, &fault, message);
+}
+
+// Takes a column's line apart: its kind, a blank, and its name.
+static bool read_column(struct source *source, const char *at, const char *blank, const char *stop, char **message) {
+    struct column *column = &source->columns[source->column_count++];
+    column->name = copy_of((const uint8_t *)blank + 1, blank < stop ? (size_t)(stop - blank - 1) : 0);
+    column->cell_line = cell_line_of(column, at, (int)(blank - at), (int)(stop - at));
+    return (column->name != NULL && column->cell_line != NULL) || lacks_memory(message);
 }
 
 // Takes the setup's lines apart: words that are nulls, a line of numbers, and a line for each column.
 static bool read_setup(struct source *source, char **message) {
-    const uint8_t *at = source->setup.at, *end = at + source->setup.length;
-    size_t lines = 1;
-    for (const uint8_t *byte = at; byte < end; byte++)
-        lines += *byte == '\n';
-    source->columns = calloc(lines, sizeof *source->columns);
-    source->nulls = calloc(lines, sizeof *source->nulls);
-    if (source->columns == NULL || source->nulls == NULL)
-        return lacks_memory(message);
-    for (bool has_numbers = false; at < end;) {
-        const uint8_t *stop = memchr(at, '\n', (size_t)(end - at));
+    if (!read_kinds(source, message))
+        return false;
+    const char *at = (const char *)source->setup.at, *end = at + source->setup.length;
+    bool has_numbers = false, is_read = true;
+    sqlite3_str *lines = sqlite3_str_new(NULL);
+    while (at < end && is_read) {
+        const char *stop = memchr(at, '\n', (size_t)(end - at));
         stop = stop == NULL ? end : stop;
-        const uint8_t *blank = memchr(at, ' ', (size_t)(stop - at));
+        const char *blank = memchr(at, ' ', (size_t)(stop - at));
         blank = blank == NULL ? stop : blank;
-        const uint8_t *behind = blank < stop ? blank + 1 : stop;
-        if (!has_numbers && blank - at == 4 && memcmp(at, "null", 4) == 0) {
-            if ((source->nulls[source->null_count++] = copy_of(behind, (size_t)(stop - behind))) == NULL)
-                return lacks_memory(message);
-        } else if (!has_numbers) {
-            has_numbers = true;
-            source->delimiter = (uint8_t)atoi((const char *)at);
-            source->is_lenient = behind < stop && *behind == '1';
+        if (has_numbers) {
+            is_read = read_column(source, at, blank, stop, message);
+        } else if (blank - at == 4 && memcmp(at, "null", 4) == 0) {
+            sqlite3_str_appendf(lines, "%.*s\n", (int)(stop - at), at);
         } else {
-            struct column *column = &source->columns[source->column_count++];
-            if ((column->name = copy_of(behind, (size_t)(stop - behind))) == NULL)
-                return lacks_memory(message);
-            if (!set_kind(column, (const char *)at, (size_t)(blank - at)))
-                return fails(message, "%s: no kind of a column: %.*s", source->path, (int)(blank - at), at);
+            has_numbers = true;
+            source->is_lenient = blank + 1 < stop && blank[1] == '1';
+            sqlite3_str_appendf(lines, "%.*s 1 0 0\n", (int)(blank - at), at);
         }
         at = stop + 1;
     }
-    return true;
+    source->cell_lines = sqlite3_str_finish(lines);
+    return is_read && (source->cell_lines != NULL || lacks_memory(message));
 }
 
 // The setup's text of what a caller says: the columns as `zone_map --columns` takes them, as `id i64, "first name" utf8?`.
@@ -309,12 +337,12 @@ bool open_source(struct source *source, const char *path, const struct reading *
 }
 
 void close_source(struct source *source) {
-    for (size_t place = 0; place < source->column_count; place++)
+    for (size_t place = 0; place < source->column_count; place++) {
         free(source->columns[place].name);
-    for (size_t place = 0; place < source->null_count; place++)
-        free(source->nulls[place]);
+        sqlite3_free(source->columns[place].cell_line);
+    }
     free(source->columns);
-    free(source->nulls);
+    sqlite3_free(source->cell_lines);
     free(source->root.at);
     free(source->setup.at);
     free(source->path);
@@ -356,7 +384,7 @@ static bool read_blocks(const struct search *search, struct bytes *blocks, uint3
 // The words are of this extension's own making. If they are refused all the same, each row is looked at.
 static bool ask_for_all(struct search *search, char **message) {
     free(search->words);
-    search->words = copy_of((const uint8_t *)"true", 4);
+    search->words = copy_of((const uint8_t *)EVERY_ROW, strlen(EVERY_ROW));
     return search->words != NULL || lacks_memory(message);
 }
 
@@ -384,7 +412,7 @@ static bool make_plan(struct search *search, char **message) {
     search->zone_count = lengths.zones;
     if (!has_memory)
         return lacks_memory(message);
-    if (!are_words_refused(status) || strcmp(search->words, "true") == 0)
+    if (!are_words_refused(status) || strcmp(search->words, EVERY_ROW) == 0)
         return status == DOQALLIN_GIVEN || refuses(source, status, &fault, message);
     free(search->zones);
     return ask_for_all(search, message) && make_plan(search, message);
@@ -450,14 +478,15 @@ static bool read_piece(struct search *search, bool *is_there, char **message) {
 // Looks for the next records that match in what was read.
 static bool judge(struct search *search, char **message) {
     const struct source *source = search->source;
-    const char *words = search->is_whole_zone ? "true" : search->words;
+    const char *words = search->is_whole_zone ? EVERY_ROW : search->words;
     size_t judged = (size_t)(search->position.place - search->text_start);
     struct doqallin_search_fault fault;
     uint32_t status = doqallin_search_records(source->setup.at, source->setup.length, (const uint8_t *)words, strlen(words), DEPTH,
                                               search->text.at + judged, search->text.length - judged, search->is_end, &search->position,
                                               search->found, sizeof search->found / sizeof *search->found, &search->found_count, &fault);
     search->next_found = 0;
-    if (are_words_refused(status) && strcmp(words, "true") != 0)
+    search->block++;
+    if (are_words_refused(status) && strcmp(words, EVERY_ROW) != 0)
         return ask_for_all(search, message) && judge(search, message);
     if (status != DOQALLIN_GIVEN)
         return refuses(source, status, &fault, message);
@@ -490,11 +519,4 @@ void end_search(struct search *search) {
     search->words = NULL;
     search->zones = NULL;
     search->text.at = NULL;
-}
-
-const uint8_t *record_of(const struct search *search, size_t *length, uint64_t *number) {
-    const struct doqallin_found *found = &search->found[search->next_found];
-    *length = found->length;
-    *number = found->number;
-    return search->text.at + (found->place - search->text_start);
 }

@@ -1,5 +1,5 @@
 // SPDX-License-Identifier: Apache-2.0
-// A CSV file and its index: what is read of them, and the records that a filter matches.
+// A CSV file and its index: what is read of them, and which records a filter matches.
 #ifndef DOQALLIN_SOURCE_H
 #define DOQALLIN_SOURCE_H
 
@@ -9,18 +9,21 @@
 
 #include "doqallin.h"
 
-// What the words of a column are.
-enum kind { INTEGER, UNSIGNED, FLOAT, DECIMAL, DATE, TIMESTAMP, CLOCK, TEXT, HEXADECIMAL, BYTES };
+// What the values of a column are.
+enum kind { INTEGER, UNSIGNED, FLOAT, DECIMAL, DATE, TIMESTAMP, CLOCK, TEXT, BYTES };
+enum { FOUND_AT_ONCE = 512 };
+// Each record that is a row matches.
+#define EVERY_ROW "true"
 
 struct column {
     char *name;
     enum kind kind;
-    bool takes_null;
-    // Of decimals the scale, of timestamps how many digits a fraction of a second has.
+    // Of decimals the scale, of times how many digits a fraction of a second has.
     int digits;
     bool is_zoned;
-    // Of floats, whether they have 32 bits.
-    bool is_single;
+    // The kind, by its code, as which its cells are read, and its line in a setup: a decimal is a float, and a date or a time its text.
+    uint8_t cell_kind;
+    char *cell_line;
 };
 
 // A piece of a file, in memory of its own.
@@ -49,12 +52,11 @@ struct source {
     struct bytes root;
     struct bytes setup;
     uint64_t start;
-    uint8_t delimiter;
+    // The lines of a setup before those of its columns, by which cells are read. It takes a record with more fields.
+    char *cell_lines;
     bool is_lenient;
     struct column *columns;
     size_t column_count;
-    char **nulls;
-    size_t null_count;
     uint64_t row_count;
 };
 
@@ -73,9 +75,11 @@ struct search {
     bool is_end;
     bool is_whole_zone;
     struct doqallin_position position;
-    struct doqallin_found found[512];
+    struct doqallin_found found[FOUND_AT_ONCE];
     size_t found_count;
     size_t next_found;
+    // How many times records were looked for.
+    uint64_t block;
     bool is_judged;
 };
 
@@ -86,7 +90,4 @@ bool begin_search(struct search *search, const struct source *source, const char
 // Goes on to the next record that matches; *is_there says whether there is one.
 bool next_record(struct search *search, bool *is_there, char **message);
 void end_search(struct search *search);
-// The record that was found last.
-const uint8_t *record_of(const struct search *search, size_t *length, uint64_t *number);
-
 #endif

@@ -19,8 +19,11 @@ SO, PROGRAM = sys.argv[1:3]
 QUERIES = int(os.environ.get("QUERIES") or 2000)
 WITHOUT_INDEX = 200
 ROWS = 3000
-COLUMNS = "id i64, town utf8?, fare decimal(12,2)?, score f64?, small f32?, many u64?, day date?, at timestamp(us)?, raw binary?"
-TYPES = "id integer, town text, fare real, score real, small real, many integer, day text, at text, raw blob"
+COLUMNS = (
+    "id i64, town utf8?, fare decimal(12,2)?, score f64?, small f32?, many u64?, day date?, at timestamp(us)?, raw binary?, "
+    "seen timestamp(ms,UTC)?, clock time(us)?, tiny i8?, wide decimal(38,20)?, as_is bytes"
+)
+TYPES = "id integer, town text, fare real, score real, small real, many integer, day text, at text, raw blob, seen text, clock text, tiny integer, wide real, as_is blob"
 TOWNS = ["Oslo", "oslo", "Bergen", "bergen", "Ås", "", "O'Hara", 'say "so"', "a,b", "two\nlines", "%", "_x", "zzz", "Oslofjord", "\U0010ffff"]
 counts = {True: 0, False: 0}
 
@@ -50,13 +53,20 @@ def random_row(chance, number):
     day = maybe(chance, f"{chance.choice([1, 1999, 2024, 2026, 9999]):04}-{chance.randrange(1, 13):02}-{chance.randrange(1, 29):02}")
     at = maybe(chance, f"2026-03-{chance.randrange(1, 29):02}{chance.choice('T ')}{chance.randrange(24):02}:{chance.randrange(60):02}" + chance.choice(["", ":07", ":07.25"]))
     raw = maybe(chance, bytes(chance.choices((0, 1, 97, 255), k=chance.choice((1, 2, 3)))))
+    seen = maybe(chance, f"2026-03-{chance.randrange(1, 29):02}{chance.choice('T ')}{chance.choice((0, 12, 23)):02}:30" + chance.choice(["Z", ":59+05:30", "-25:59", "+25:59:59"]))
+    clock = maybe(chance, f"{chance.randrange(24):02}:{chance.randrange(60):02}" + chance.choice(["", ":59.999999", ":00"]))
+    tiny = maybe(chance, str(chance.randrange(-128, 128)))
+    wide = maybe(chance, f"{chance.randrange(-(10**17), 10**17)}.{chance.randrange(10**20):020}")
+    as_is = chance.choice(["", "plain", "with,comma", 'a "quote"'])
     town = chance.choice(TOWNS)
     floats = [None if word is None else float(word) for word in (fare, score, small)]
     if floats[2] is not None:
         floats[2] = nearest_small(floats[2])
     whole = None if many is None else int(many) if int(many) < 2**63 else float(int(many))
-    values = [number // 3, town, *[None if value is None or math.isnan(value) else value for value in floats], whole, day, at, raw]
-    words = [str(number // 3), town, fare, score, small, many, day, at, None if raw is None else raw.hex()]
+    numbers = [None if value is None or math.isnan(value) else value for value in floats]
+    rest = [seen, clock, None if tiny is None else int(tiny), None if wide is None else float(wide), as_is.encode()]
+    values = [number // 3, town, *numbers, whole, day, at, raw, *rest]
+    words = [str(number // 3), town, fare, score, small, many, day, at, None if raw is None else raw.hex(), seen, clock, tiny, wide, as_is]
     return values, words
 
 
@@ -66,7 +76,7 @@ def write_file(path, chance, count):
     with open(path, "w", encoding="utf-8", newline="") as file:
         for _, words in rows:
             # An empty string is in quotes, and a null is not.
-            texts = ["" if word is None else f'"{word.replace(chr(34), chr(34) * 2)}"' if place == 1 else word for place, word in enumerate(words)]
+            texts = ["" if word is None else f'"{word.replace(chr(34), chr(34) * 2)}"' if place in (1, 13) else word for place, word in enumerate(words)]
             file.write(",".join(texts) + chance.choice(["\n", "\r\n"]))
     return [values for values, _ in rows]
 
@@ -81,7 +91,7 @@ def quoted(value):
     return "null" if value is None else str(value)
 
 
-NAMES = ["id", "town", "fare", "score", "small", "many", "day", "at", "raw"]
+NAMES = ["id", "town", "fare", "score", "small", "many", "day", "at", "raw", "seen", "clock", "tiny", "wide", "as_is"]
 
 
 def random_operand(chance, rows, column):
@@ -116,8 +126,9 @@ def random_condition(chance, rows):
 def random_query(chance, rows):
     conditions = [random_condition(chance, rows) for _ in range(chance.choice((1, 1, 2, 3)))]
     where = chance.choice([" and ", " and ", " or "]).join(conditions)
-    what = chance.choice(["*", "*", "count(*), round(sum(fare), 2), min(day), max(at)", "town, count(*)"])
-    group = " group by town" if what.startswith("town") else ""
+    some = ", ".join(chance.sample(NAMES, chance.randrange(1, 5)))
+    what = chance.choice(["*", some, "count(*), round(sum(fare), 2), min(day), max(at)", "town, count(*)", "count(*)"])
+    group = " group by town" if what == "town, count(*)" else ""
     return f"select {what} from {{}} where {where}{group}"
 
 
@@ -150,7 +161,8 @@ def plan(store, where):
 
 def see_plans(store):
     for where, words in [("id = 7 and town > 'x'", '"id" = ? and "town" > ?'), ("id in (1, 2)", '"id" in (?)'), ("fare is null", '"fare" is null'),
-                         ("town like 'Os%'", '"town" like ?'), ("id between 3 and 5", '"id" >= ? and "id" <= ?')]:
+                         ("town like 'Os%'", '"town" like ?'), ("id between 3 and 5", '"id" >= ? and "id" <= ?'), ("fare in (1, 2)", '"fare" in (?)'),
+                         ("seen >= '2026-03-02'", '"seen" >= ?'), ("clock < '10:00'", '"clock" < ?')]:
         judge(f"the plan of {where}", words in plan(store, where), plan(store, where))
     judge("a comparison of other letters", '"town"' not in plan(store, "town = 'x' collate nocase"), plan(store, "town = 'x' collate nocase"))
 
@@ -188,6 +200,45 @@ def see_refusals(folder, store):
     judge("options", store.execute("select id, name from head order by id").fetchall() == [(1, "a"), (2, None)], "other rows")
 
 
+def see_what_is_skipped(folder, store):
+    """A zone whose bytes were changed behind the index's back is refused by a query that reads it, and by no other."""
+    path = f"{folder}/sorted.csv"
+    with open(path, "w", encoding="utf-8") as file:
+        file.writelines(f"{n},{n}.5,2026-03-{n // 10 + 1:02} 10:{n % 60:02},2026-03-{3 * (n // 10) + 1:02}T10:00+02:00,{n // 10:02}:30\n" for n in range(100))
+    columns = "id i64, fare decimal(9,1), at timestamp(us), seen timestamp(s,UTC), clock time(s)"
+    subprocess.run([PROGRAM, "index", path, "--columns", columns, "--rows", "10"], check=True, stdout=subprocess.DEVNULL)
+    changed = os.stat(path)
+    with open(path, "r+b") as file:
+        file.write(b"x")
+    os.utime(path, ns=(changed.st_atime_ns, changed.st_mtime_ns))
+    store.execute(f"create virtual table sorted using zone_map('{path}')")
+    for where, wanted in [("id > 50", 49), ("fare in (90.5, 95.5, 12.25)", 2), ("fare > 50", 50), ("at > '2026-03-05 10:45'", 54), ("at in ('2026-03-09 10:20', '2026-03-10 10:39')", 2),
+                          ("at between '2026-03-03' and '2026-03-04'", 10), ("seen >= '2026-03-10'", 70), ("seen in ('2026-03-28T10:00+02:00', '2026-03-10T10:00+02:00')", 20),
+                          ("clock >= '08:30'", 20), ("clock in ('04:30', '05:30:00')", 10), ("clock = '04:30' or fare > 98", 12), ("id >= 0", None), ("seen <= '2026-03-02'", None), ("clock < '01:00'", None)]:
+        try:
+            found = store.execute(f"select count(*) from sorted where {where}").fetchone()[0]
+        except sqlite3.Error as error:
+            found = None if "column id does not take its field" in str(error) else error
+        judge(f"zones of {where}", found == wanted, found)
+
+
+def see_cells(folder, store):
+    """Cells of columns that few queries have: beyond the 63rd, years with a sign, and rows that two ways of an `or` find."""
+    with open(f"{folder}/broad.csv", "w", encoding="utf-8") as file:
+        file.writelines(",".join(str(n + place) for place in range(70)) + "\n" for n in range(600))
+    store.execute(f"create virtual table broad using zone_map('{folder}/broad.csv', columns='{', '.join(f'c{place} i64' for place in range(70))}')")
+    judge("a column beyond the 63rd", store.execute("select c69, c0, c62, c63 from broad where c64 = 600").fetchall() == [(605, 536, 598, 599)], "other cells")
+    judge("rows that are found twice", store.execute("select rowid, c1 from broad where c0 = 3 or c2 = 5 or c69 = 599").fetchall() == [(4, 4), (531, 531)], "other rows")
+    judge("no column", store.execute("select count(*) from broad").fetchone() == (600,), "another count")
+    judge("a join", store.execute("select count(*) from broad a join broad b on a.c0 = b.c1").fetchone() == (599,), "another count")
+    with open(f"{folder}/years.csv", "w", encoding="utf-8") as file:
+        file.write("1,2026-03-01,+002026-03-01 10:00\n2,2025-03-01,2025-03-01 10:00\n3,-000001-03-01,-000001-03-01 10:00\n")
+    store.execute(f"create virtual table years using zone_map('{folder}/years.csv', columns='id i64, day date, at timestamp(us)')")
+    judge("years with a sign", store.execute("select day, at from years where id = 1").fetchall() == [("2026-03-01", "2026-03-01 10:00")], "another text")
+    for name in ("day", "at"):
+        judge(f"years with a sign by {name}", store.execute(f"select id from years where {name} <= '2025-12-31'").fetchall() == [(2,), (3,)], "other rows")
+
+
 def main():
     store = sqlite3.connect(":memory:")
     store.enable_load_extension(True)
@@ -197,6 +248,8 @@ def main():
         tables_agree(chance, folder, store, True, QUERIES)
         tables_agree(chance, folder, store, False, min(WITHOUT_INDEX, QUERIES))
         see_plans(store)
+        see_what_is_skipped(folder, store)
+        see_cells(folder, store)
         see_refusals(folder, store)
     print(f"{counts[True]} passed, {counts[False]} failed")
     return 1 if counts[False] else 0

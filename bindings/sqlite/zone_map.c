@@ -12,6 +12,7 @@
 #include <stdlib.h>
 #include <string.h>
 
+#include "cells.h"
 #include "conditions.h"
 #include "source.h"
 
@@ -23,6 +24,8 @@ enum { MOST_CONSTRAINTS = 32 };
 struct plan {
     struct constraint constraints[MOST_CONSTRAINTS];
     int count;
+    // The columns that the query uses, a bit for each.
+    uint64_t used;
 };
 
 struct table {
@@ -34,21 +37,11 @@ struct table {
     int plan_count;
 };
 
-struct field {
-    size_t start;
-    size_t end;
-    bool is_quoted;
-};
-
 struct cursor {
     sqlite3_vtab_cursor base;
     struct search search;
+    struct cells cells;
     bool is_there;
-    bool has_fields;
-    struct field *fields;
-    size_t field_count;
-    char *unquoted;
-    size_t unquoted_room;
 };
 
 static struct table *table_of(sqlite3_vtab *base) {
@@ -98,7 +91,7 @@ static bool read_option(const char *option, struct reading *reading, char **word
 }
 
 static const char *type_of(const struct column *column) {
-    static const char *const TYPES[] = {"integer", "integer", "real", "real", "text", "text", "text", "text", "blob", "blob"};
+    static const char *const TYPES[] = {"integer", "integer", "real", "real", "text", "text", "text", "text", "blob"};
     return TYPES[column->kind];
 }
 
@@ -192,8 +185,6 @@ static bool take(struct table *table, struct plan *plan, sqlite3_index_info *inf
     if (!can_push(column, asked->op, table->has_own_order) || (column->kind == TEXT && !is_pattern && !is_binary(info, place)))
         return false;
     bool is_list = asked->op == SQLITE_INDEX_CONSTRAINT_EQ && sqlite3_vtab_in(info, place, -1);
-    if (is_list && (column->kind == DECIMAL || column->kind == TIMESTAMP))
-        return false;
     if (is_list)
         sqlite3_vtab_in(info, place, 1);
     plan->constraints[plan->count++] = (struct constraint){.column = (size_t)asked->iColumn, .operator = asked->op, .is_list = is_list};
@@ -212,6 +203,7 @@ static int best_index(sqlite3_vtab *base, sqlite3_index_info *info) {
         return SQLITE_NOMEM;
     }
     memset(plan, 0, sizeof *plan);
+    plan->used = info->colUsed;
     double rows = (double)table->source.row_count;
     sqlite3_str *words = sqlite3_str_new(NULL);
     for (int place = 0; place < info->nConstraint; place++)
@@ -236,12 +228,8 @@ static int open_cursor(sqlite3_vtab *base, sqlite3_vtab_cursor **made) {
     struct cursor *cursor = sqlite3_malloc(sizeof *cursor);
     if (cursor == NULL)
         return SQLITE_NOMEM;
+    (void)base;
     memset(cursor, 0, sizeof *cursor);
-    cursor->fields = calloc(table_of(base)->source.column_count, sizeof *cursor->fields);
-    if (cursor->fields == NULL) {
-        sqlite3_free(cursor);
-        return SQLITE_NOMEM;
-    }
     *made = &cursor->base;
     return SQLITE_OK;
 }
@@ -249,8 +237,7 @@ static int open_cursor(sqlite3_vtab *base, sqlite3_vtab_cursor **made) {
 static int close_cursor(sqlite3_vtab_cursor *base) {
     struct cursor *cursor = cursor_of(base);
     end_search(&cursor->search);
-    free(cursor->fields);
-    free(cursor->unquoted);
+    end_cells(&cursor->cells);
     sqlite3_free(cursor);
     return SQLITE_OK;
 }
@@ -266,7 +253,6 @@ static int answer(sqlite3_vtab_cursor *base, bool is_well, char *message) {
 static int next(sqlite3_vtab_cursor *base) {
     struct cursor *cursor = cursor_of(base);
     char *message = NULL;
-    cursor->has_fields = false;
     bool is_well = next_record(&cursor->search, &cursor->is_there, &message);
     return answer(base, is_well, message);
 }
@@ -281,7 +267,8 @@ static int filter(sqlite3_vtab_cursor *base, int number, const char *text, int c
         write_condition(conditions, &table->source.columns[plan->constraints[place].column], &plan->constraints[place], operands[place]);
     char *words = sqlite3_str_finish(conditions), *message = NULL;
     end_search(&cursor->search);
-    bool is_begun = begin_search(&cursor->search, &table->source, words == NULL ? "true" : words, &message);
+    bool is_begun = begin_search(&cursor->search, &table->source, words == NULL ? EVERY_ROW : words, &message) &&
+                    begin_cells(&cursor->cells, &table->source, plan->used, &message);
     sqlite3_free(words);
     return is_begun ? next(base) : answer(base, false, message);
 }
@@ -291,145 +278,19 @@ static int is_at_end(sqlite3_vtab_cursor *base) {
 }
 
 static int row_number(sqlite3_vtab_cursor *base, sqlite3_int64 *number) {
-    size_t length;
-    uint64_t found;
-    record_of(&cursor_of(base)->search, &length, &found);
-    *number = (sqlite3_int64)found;
+    const struct search *search = &cursor_of(base)->search;
+    *number = (sqlite3_int64)search->found[search->next_found].number;
     return SQLITE_OK;
-}
-
-// ---- fields
-
-// The place of the quote that closes the one at this place, or the end of the record. Two quotes are one that is meant.
-static size_t closing_quote(const uint8_t *record, size_t length, size_t place) {
-    for (place++; place < length; place++) {
-        if (record[place] != '"')
-            continue;
-        if (place + 1 == length || record[place + 1] != '"')
-            return place;
-        place++;
-    }
-    return length;
-}
-
-// Where the field that begins at a place ends: at the delimiter behind it, or at the end of the record.
-static size_t end_of_field(const uint8_t *record, size_t length, size_t place, uint8_t delimiter) {
-    if (place < length && record[place] == '"')
-        place = closing_quote(record, length, place);
-    const uint8_t *end = delimiter == 255 || place >= length ? NULL : memchr(record + place, delimiter, length - place);
-    return end == NULL ? length : (size_t)(end - record);
-}
-
-static void cut_fields(struct cursor *cursor, const uint8_t *record, size_t length) {
-    const struct source *source = cursor->search.source;
-    length -= length > 0 && record[length - 1] == '\n';
-    length -= length > 0 && record[length - 1] == '\r';
-    cursor->field_count = 0;
-    for (size_t place = 0; cursor->field_count < source->column_count; place++) {
-        size_t end = end_of_field(record, length, place, source->delimiter);
-        cursor->fields[cursor->field_count++] = (struct field){.start = place, .end = end, .is_quoted = place < end && record[place] == '"'};
-        if (end >= length)
-            break;
-        place = end;
-    }
-    cursor->has_fields = true;
-}
-
-// The word of a field; without its quotes, in memory of the cursor.
-static const char *word_of(struct cursor *cursor, const struct field *field, const uint8_t *record, size_t *length) {
-    *length = field->end - field->start;
-    if (cursor->unquoted_room < *length + 1) {
-        char *room = realloc(cursor->unquoted, *length + 1);
-        if (room == NULL)
-            return NULL;
-        cursor->unquoted = room;
-        cursor->unquoted_room = *length + 1;
-    }
-    size_t count = 0;
-    bool is_inside = field->is_quoted;
-    for (size_t place = field->start + field->is_quoted; place < field->end; place++) {
-        if (is_inside && record[place] == '"') {
-            is_inside = place + 1 < field->end && record[place + 1] == '"';
-            place += is_inside;
-            if (!is_inside)
-                continue;
-        }
-        cursor->unquoted[count++] = (char)record[place];
-    }
-    cursor->unquoted[count] = 0;
-    *length = count;
-    return cursor->unquoted;
-}
-
-static bool is_null(const struct source *source, const struct column *column, const struct field *field, const char *word, size_t length) {
-    if (!column->takes_null || field->is_quoted)
-        return false;
-    for (size_t place = 0; place < source->null_count; place++)
-        if (strlen(source->nulls[place]) == length && memcmp(source->nulls[place], word, length) == 0)
-            return true;
-    return length == 0;
-}
-
-static int digit_of(char letter) {
-    return letter <= '9' ? letter - '0' : (letter | 32) - 'a' + 10;
-}
-
-static void give_hexadecimal(sqlite3_context *context, char *word, size_t length) {
-    for (size_t place = 0; place + 1 < length; place += 2)
-        word[place / 2] = (char)(digit_of(word[place]) << 4 | digit_of(word[place + 1]));
-    sqlite3_result_blob64(context, word, length / 2, SQLITE_TRANSIENT);
-}
-
-// A number beyond 64 bits with a sign is its nearest float.
-static void give_unsigned(sqlite3_context *context, const char *word) {
-    unsigned long long number = strtoull(word, NULL, 10);
-    if (number > INT64_MAX)
-        sqlite3_result_double(context, (double)number);
-    else
-        sqlite3_result_int64(context, (sqlite3_int64)number);
-}
-
-static void give(sqlite3_context *context, const struct column *column, char *word, size_t length) {
-    switch (column->kind) {
-    case INTEGER:
-        sqlite3_result_int64(context, strtoll(word, NULL, 10));
-        return;
-    case UNSIGNED:
-        give_unsigned(context, word);
-        return;
-    case FLOAT:
-    case DECIMAL:
-        // A table of SQLite's has no zero with a sign.
-        sqlite3_result_double(context, (column->is_single ? (double)strtof(word, NULL) : strtod(word, NULL)) + 0.0);
-        return;
-    case HEXADECIMAL:
-        give_hexadecimal(context, word, length);
-        return;
-    case BYTES:
-        sqlite3_result_blob64(context, word, length, SQLITE_TRANSIENT);
-        return;
-    default:
-        sqlite3_result_text64(context, word, length, SQLITE_TRANSIENT, SQLITE_UTF8);
-    }
 }
 
 static int column(sqlite3_vtab_cursor *base, sqlite3_context *context, int number) {
     struct cursor *cursor = cursor_of(base);
-    const struct source *source = cursor->search.source;
-    size_t length;
-    uint64_t record_number;
-    const uint8_t *record = record_of(&cursor->search, &length, &record_number);
-    if (!cursor->has_fields)
-        cut_fields(cursor, record, length);
-    if ((size_t)number >= cursor->field_count)
-        return SQLITE_OK;
-    const struct field *field = &cursor->fields[number];
-    char *word = (char *)word_of(cursor, field, record, &length);
-    if (word == NULL)
-        return SQLITE_NOMEM;
-    if (!is_null(source, &source->columns[number], field, word, length))
-        give(context, &source->columns[number], word, length);
-    return SQLITE_OK;
+    char *message = NULL;
+    bool is_given = give_cell(&cursor->cells, &cursor->search, (size_t)number, context, &message);
+    if (!is_given)
+        sqlite3_result_error(context, message == NULL ? "out of memory" : message, -1);
+    sqlite3_free(message);
+    return is_given ? SQLITE_OK : SQLITE_ERROR;
 }
 
 static const sqlite3_module MODULE = {

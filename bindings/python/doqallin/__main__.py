@@ -9,6 +9,7 @@ import io
 import os
 import sys
 from collections.abc import Callable, Iterable, Sequence
+from itertools import chain
 from typing import Any
 
 from ._command_faults import Fault, bad_filter, bad_record, fault_of, listed, no_index, quoted
@@ -42,6 +43,7 @@ def _search_parser(command: str, about: str) -> argparse.ArgumentParser:
     parser.add_argument("words", nargs="*", metavar="FILE", help="files, patterns of them, folders, and - for standard input; the last word is the filter")
     parser.add_argument("-e", "--where", metavar="FILTER", help="which rows match; then each word is a file")
     parser.add_argument("--tell", action="store_true", help="report on standard error what became of the zones, and how many bytes were read")
+    parser.add_argument("--grown", action="store_true", help="search a file that was only appended to since it was indexed: what is new, too")
     parser.add_argument("--whole", action="store_true", help="search the whole file without its index, as the next five options do")
     _add_reading(parser)
     name: dict[str, Any] = {"dest": "has_name", "default": None}
@@ -62,6 +64,7 @@ def _index_parser() -> argparse.ArgumentParser:
     _add_reading(parser)
     parser.add_argument("--rows", type=int, default=1000, metavar="N", help="how many records a zone has; 1000 if not given")
     parser.add_argument("--bytes", type=int, default=24, metavar="N", help="how many bytes a bound of strings or bytes has at most; 24 if not given")
+    parser.add_argument("--append", action="store_true", help="extend the index of a file that was only appended to; --rows and --bytes stay what they were")
     return parser
 
 
@@ -121,6 +124,11 @@ def _reading(asked: argparse.Namespace) -> dict[str, Any]:
     return {"columns": columns, "header": asked.header, "delimiter": delimiter, "nulls": asked.null, "lenient": asked.lenient}
 
 
+def _is_said(asked: argparse.Namespace) -> bool:
+    """Whether something is said of how records are read."""
+    return bool(asked.columns is not None or asked.delimiter is not None or asked.header or asked.null or asked.lenient)
+
+
 def _named(words: Sequence[str]) -> list[str]:
     """The files that words name, but for the indexes of others of them."""
     names = [name for word in words for name in (_paths(word) or [word])]
@@ -167,7 +175,7 @@ class _Search:
     def __init__(self, asked: argparse.Namespace, filter: str, names: Sequence[str]) -> None:
         self.asked, self.filter, self.names = asked, filter, names
         self.reading = _reading(asked)
-        self.is_said = asked.columns is not None or asked.delimiter is not None or asked.header or bool(asked.null) or asked.lenient
+        self.is_said = _is_said(asked)
         self.found = self.without_index = 0
 
     @property
@@ -184,7 +192,7 @@ class _Search:
         name = _INPUT if word == "-" else word
         is_whole = self.asked.whole or self.is_said
         try:
-            with open(_input() if word == "-" else word, **self.reading, index=not is_whole) as files:
+            with open(_input() if word == "-" else word, **self.reading, index=not is_whole, grown=self.asked.grown) as files:
                 (file,) = files._files
                 lacks_index = word != "-" and not is_whole and file.index is None
                 if lacks_index and len(self.names) == 1:
@@ -233,7 +241,8 @@ class _Search:
                 _tell(f"{self.note(name)}no index, bytes read {file.source.fetched}")
             return rows
         zones = file.index.plan(self.filter, is_count).zones
-        rows = file.count_in(zones, self.filter) if is_count else self._write_rows(name, file, file.matches_in(zones, self.filter))
+        matches = chain(file.matches_in(zones, self.filter), file.matches_beyond(self.filter))
+        rows = file.count_in(zones, self.filter) if is_count else self._write_rows(name, file, matches)
         if self.asked.tell:
             skipped, copied = (sum(zone.way == way for zone in zones) for way in (SKIP, WHOLE))
             found = f"skipped {skipped}, copied {copied}, searched {len(zones) - skipped - copied}"
@@ -281,11 +290,13 @@ def _make_index(asked: argparse.Namespace, reading: dict[str, Any], note: str, n
     if name == "-":
         raise Fault("an index is of a file, and not of standard input", name)
     try:
-        with open(name, **reading, index=False) as files:
+        if asked.append and os.path.exists(name) and _Source(name, True).index() is None:
+            raise no_index(name)
+        with open(name, **reading, index=asked.append, grown=asked.append) as files:
             (file,) = files._files
             if asked.header and file.start == 0:
                 raise Fault(f"{name}: the file is empty, and has no header", name, is_named=True)
-            if set(files.columns) != set(reading["columns"] or ()):
+            if not asked.append and set(files.columns) != set(reading["columns"] or ()):
                 _tell(f"{note}columns {listed(files.columns)}")
             try:
                 made = files.index(rows=asked.rows, bounds=asked.bytes)
@@ -294,7 +305,9 @@ def _make_index(asked: argparse.Namespace, reading: dict[str, Any], note: str, n
             made.close()
             if asked.lenient:
                 _tell(f"{note}{made.nulled} words became nulls; {made.longer} records had fields too many")
-    except StaleIndex:
+    except StaleIndex as error:
+        if asked.append and "while it was read" not in str(error):
+            raise fault_of(error, name) from None
         raise Fault(f"{name}: the file changed while it was read", name, is_named=True) from None
     except (DoqallinError, OSError) as error:
         raise fault_of(error, name) from None
@@ -303,6 +316,8 @@ def _make_index(asked: argparse.Namespace, reading: dict[str, Any], note: str, n
 def _index(asked: argparse.Namespace, parser: argparse.ArgumentParser) -> int:
     if asked.rows < 1 or asked.bytes < 0:
         parser.error("--rows is at least 1, and --bytes at least 0")
+    if asked.append and _is_said(asked):
+        parser.error("--append reads records as the index says")
     reading, names = _reading(asked), _named(asked.words)
     has_failed = _each(names, lambda name: _make_index(asked, reading, f"{name}: " if len(names) > 1 else "", name))
     return _FAILED if has_failed else 0

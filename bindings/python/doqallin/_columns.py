@@ -15,7 +15,7 @@ from typing import Any, NamedTuple, overload
 from ._errors import BadOffsets, KindsDiffer, NotANumber, NotAValue, NotUtf8, UnknownKind, at
 from ._export import array_of_column, schema_of_column
 from ._kinds import BINARY, BOOL, F32, F64, I64, ITEMS, LARGE_BINARY, LARGE_UTF8, NULL, TYPECODES, U64, UTF8, WIDTHS, ColumnKind, kind_of
-from ._library import RawColumn, encoded
+from ._library import ColumnBuffers, RawColumn, encoded, new_buffer, new_offsets
 from ._numpy import array_of
 from ._types import DType
 from ._values import items_of, logical_kind_of, takes, values_of
@@ -24,11 +24,12 @@ __all__ = ["Column"]
 
 
 class Buffer(NamedTuple):
-    """Bytes at an address, and what keeps them there."""
+    """Bytes at an address, and what keeps them there. Offsets that the library has written are right, and need no test."""
 
     address: int
     length: int
     owner: object
+    is_right: bool = False
 
 
 _NOTHING = (ctypes.c_uint64 * 1)()
@@ -191,12 +192,16 @@ class Column(Sequence[Any]):
             raise at(BadOffsets(f"the offsets of row {row} go down, or past the end of the bytes"), row)
         return ctypes.string_at(self._values.address + start, end - start)
 
+    def _test(self, ends: list[int]) -> None:
+        """Raises BadOffsets if an offset goes down, or past the end of the bytes."""
+        if not self._offsets.is_right and (not all(map(le, ends, ends[1:])) or ends[-1] > self._values.length):
+            for row in range(self._length):
+                self._text(row)
+
     def _texts(self) -> tuple[bytes, list[int]]:
         """The bytes of all rows, and where each begins in them and the last ends."""
         ends = self._ends(0, self._length)
-        if not all(map(le, ends, ends[1:])) or ends[-1] > self._values.length:
-            for row in range(self._length):
-                self._text(row)
+        self._test(ends)
         first = ends[0]
         return ctypes.string_at(self._values.address + first, ends[-1] - first), [end - first for end in ends]
 
@@ -364,6 +369,41 @@ def of_texts(kind: ColumnKind, texts: Sequence[bytes], validity: Buffer = EMPTY)
     return Column._of(kind, len(texts), buffer_of(b"".join(texts)), buffer_of(offsets), validity)
 
 
+class Room:
+    """Buffers for a column of so many rows at most, whose strings have at most so many bytes together."""
+
+    def __init__(self, kind: ColumnKind, rows: int, most: int) -> None:
+        self._kind = kind
+        bitmap = (rows + 7) // 8
+        size = most if kind.has_offsets else bitmap if kind.code == BOOL else kind.width * rows
+        self._validity, self._values = new_buffer(bitmap), new_buffer(size)
+        self._offsets = new_offsets(rows + 1 if kind.has_offsets else 0)
+
+    def raw(self) -> ColumnBuffers:
+        """Where the library writes the column."""
+        buffers: list[ctypes.Array[Any]] = [self._validity, self._values, self._offsets]
+        each = ((ctypes.addressof(buffer), len(buffer)) for buffer in buffers)
+        return ColumnBuffers(*(part for pair in each for part in pair), 0)
+
+    def _written(self, rows: int, count: int) -> list[tuple[ctypes.Array[Any], int]]:
+        """The validity, the values and the offsets, and how many bytes of each were written."""
+        return [(self._validity, (rows + 7) // 8), (self._values, count), (self._offsets, 8 * (rows + 1) if self._kind.has_offsets else 0)]
+
+    def column(self, rows: int, count: int) -> Column:
+        """The column of so many rows that was written, with so many bytes of values, where it lies."""
+        if self._kind.code == NULL:
+            return Column._of(self._kind, rows)
+        written = self._written(rows, count)
+        validity, values, offsets = (Buffer(ctypes.addressof(part), length, part, True) if length else EMPTY for part, length in written)
+        return Column._of(self._kind, rows, values, offsets, validity)
+
+    def copied(self, rows: int, count: int) -> Column:
+        """The same in memory of its own, as long as it is. Without nulls it has no bitmap of them."""
+        validity, values, offsets = (buffer_of(ctypes.string_at(part, length))._replace(is_right=True) for part, length in self._written(rows, count))
+        made = Column._of(self._kind, rows, values, offsets, validity)
+        return made if made.null_count else Column._of(self._kind, rows, values, offsets)
+
+
 class _PyBuffer(ctypes.Structure):
     """Python's Py_buffer, as far as its first field matters."""
 
@@ -416,22 +456,43 @@ def of_view(view: memoryview) -> Column:
     return Column._of(kind, len(view), Buffer(_address_of(view), view.nbytes, view) if view.nbytes else EMPTY)
 
 
+def _moved(offsets: bytes, by: int) -> bytes:
+    """Offsets of 64 bits, each so much greater. As one number they are moved at once, since none passes its 64 bits."""
+    moves = int.from_bytes(abs(by).to_bytes(8, "little") * (len(offsets) // 8), "little")
+    number = int.from_bytes(offsets, "little")
+    return (number + moves if by >= 0 else number - moves).to_bytes(len(offsets), "little")
+
+
+def _offsets_of(one: Column) -> bytes:
+    """The offsets of a column's rows, of 64 bits each. Those that are right are not looked at one by one."""
+    if one._length and one._offsets.is_right and one._kind == one._kind.large:
+        return ctypes.string_at(one._offsets.address + 8 * one._offset, 8 * (one._length + 1))
+    ends = one._ends(0, one._length)
+    one._test(ends)
+    return array("Q", ends).tobytes()
+
+
 def _joined_texts(columns: Sequence[Column]) -> tuple[Buffer, Buffer]:
     """The bytes and the offsets of columns one behind another."""
-    places, texts = array("q", [0]), []
+    places, texts, end = [bytes(8)], [], 0
     for one in columns:
-        text, ends = one._texts()
-        places.extend([end + places[-1] for end in ends[1:]])
-        texts.append(text)
-    return buffer_of(b"".join(texts)), buffer_of(places)
+        ends = _offsets_of(one)
+        first, last = (int.from_bytes(offset, "little") for offset in (ends[:8], ends[-8:]))
+        places.append(_moved(ends, end - first)[8:])
+        texts.append(ctypes.string_at(one._values.address + first, last - first))
+        end += last - first
+    return buffer_of(b"".join(texts)), buffer_of(b"".join(places))._replace(is_right=True)
 
 
 def _joined_bits(columns: Sequence[Column], bits: Iterable[int]) -> Buffer:
-    length, number = 0, 0
+    """Bits one behind another. What does not fill a byte goes on with the next ones."""
+    whole, rest, number = [], 0, 0
     for one, part in zip(columns, bits):
-        number |= part << length
-        length += one._length
-    return buffer_of(bitmap_of(number, length))
+        number |= part << rest
+        count, rest = divmod(rest + one._length, 8)
+        whole.append(bitmap_of(number & ((1 << 8 * count) - 1), 8 * count))
+        number >>= 8 * count
+    return buffer_of(b"".join([*whole, bitmap_of(number, rest)]))
 
 
 def joined(columns: Sequence[Column]) -> Column:

@@ -60,7 +60,7 @@ def fault_of(error: Exception, name: str) -> Fault:
     if isinstance(error, NoColumn):
         return Fault(f"{name}: No such file or directory (os error 2)", name, is_named=True)
     if isinstance(error, StaleIndex):
-        return Fault(f"{name}: the file has changed since it was indexed; index it again", name, is_named=True)
+        return Fault(f"{name}: the file has changed since it was indexed; index it again, or say --grown or --append if it was only appended to", name, is_named=True)
     if isinstance(error, BadIndex):
         return Fault(f"{name}.zones: {error}; index the file again", name, is_named=True)
     if isinstance(error, OSError) and error.errno is not None:

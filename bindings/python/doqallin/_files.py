@@ -8,16 +8,16 @@ import glob
 import io
 import os
 from collections.abc import Iterable, Iterator, Mapping
+from itertools import chain
 from typing import Any, NamedTuple
 
-from ._columns import Column, joined
 from ._errors import BadIndex, BadRecord, KindsDiffer, NoColumn, StaleIndex
-from ._indexes import BOUNDS, ROWS, Maker, Progress, sized, telling, write
+from ._found import Reader, Rows, places_of, together, word_of
+from ._indexes import BOUNDS, ROWS, Maker, Progress, ends_record, is_zone, sized, telling, write
 from ._library import Position, RawZone
 from ._searches import ALL_MATCH, EVERY_ROW, SKIP, UNKNOWN, WHOLE, Index, Match, guessed, matching
-from ._tables import Table, of_columns
+from ._tables import Table, table_of
 from ._types import DType
-from ._words import Rows, places_of, word_of
 
 __all__ = ["Files", "FileZone", "index", "open"]
 
@@ -102,16 +102,25 @@ class _Source:
 class _File:
     """A file, how its records are read, and its index if it has one."""
 
-    def __init__(self, source: _Source, given: bytes, has_header: bool, has_options: bool) -> None:
+    def __init__(self, source: _Source, given: bytes, has_header: bool, has_options: bool, may_have_grown: bool = False) -> None:
         self.source = source
         self.has_header = has_header
         self.index: Index | None = None
+        self.may_have_grown = may_have_grown
+        # Where what is new since the file was indexed begins.
+        self._new: Position | None = None
         found = None if has_options else source.index()
         self._index_source = found
         if found is not None:
             self.index = Index(found.read)
-            self._compare(self.index)
             self.setup, self.start = self.index.setup, self.index.parts.start
+            self._length = source.length()
+            try:
+                self._compare(self.index)
+            except StaleIndex:
+                if not may_have_grown:
+                    raise
+                self._new = self._grown(self.index)
         else:
             first = source.read(0, _BEGINNING)
             self.setup, self.start = guessed(first, given, has_header, len(first) < _BEGINNING)
@@ -121,8 +130,21 @@ class _File:
         if index.parts.file_length != self.source.length() or changed not in (None, index.parts.changed):
             raise StaleIndex(f"{self.source.name} is not as it was when its index was made: make the index again, or open the file with index=False")
 
+    def _grown(self, index: Index) -> Position:
+        """Where what is new begins in a file that was only appended to, by its last zone."""
+        zones, statistics = index.plan(EVERY_ROW).zones, index.statistics()
+        end = zones[-1].place + zones[-1].length if zones else self.start
+        first = zones[-1].place if zones else 0
+        text = self.source.read(first, end - first)
+        is_same = len(text) == end - first and (not zones or is_zone(self.setup, zones[-1], statistics[-1], text))
+        if not is_same or not (self._length == end or ends_record(self.setup, text)):
+            raise StaleIndex(f"{self.source.name} was changed, and not only appended to, since its index was made: make the index again")
+        return Position(end, sum(zone.records for zone in zones) + 1)
+
     def is_as_indexed(self) -> bool:
-        """Whether the file is still the one that its index is of."""
+        """Whether the file is still the one that its index is of, or has only grown, where it may have done so."""
+        if self.index is not None and self.may_have_grown:
+            return self.source.length() >= self._length
         try:
             if self.index is not None:
                 self._compare(self.index)
@@ -144,27 +166,51 @@ class _File:
         if self.index is None:
             length = self.source.length() - self.start
             return [FileZone(self.source.name, self.start, length, -1, -1, "search")]
-        return [FileZone(self.source.name, zone.place, zone.length, zone.records, zone.rows, _WAYS[zone.way]) for zone in self.index.plan(words).zones]
+        found = [FileZone(self.source.name, zone.place, zone.length, zone.records, zone.rows, _WAYS[zone.way]) for zone in self.index.plan(words).zones]
+        if self._new is not None:
+            found.append(FileZone(self.source.name, self._new.place, self._length - self._new.place, -1, -1, "search"))
+        return found
 
     def matches(self, words: str, is_count: bool = False) -> Iterator[tuple[bytes, int, list[Match]]]:
         """Pieces of the file with the records in them that match: bytes, the offset at which they begin, and the records."""
-        if self.index is None:
-            yield from self._of_whole_file(words)
-        else:
+        if self.index is not None:
             yield from self.matches_in(self.index.plan(words, is_count).zones, words, is_count)
+        yield from self.matches_beyond(words)
 
     def matches_in(self, zones: Iterable[RawZone], words: str, is_count: bool = False) -> Iterator[tuple[bytes, int, list[Match]]]:
         """The same of the zones of a plan."""
+        for text, first, asked in self._texts_of(zones, words, is_count):
+            for found in matching(self.setup, asked, text, Position(first.place, first.number + 1), True):
+                yield text, first.place, found
+
+    def _texts_of(self, zones: Iterable[RawZone], words: str, is_count: bool = False) -> Iterator[tuple[bytes, RawZone, str]]:
+        """The texts of a plan's zones that are to be read, the first zone of each, and what is sought in it."""
         for run in _runs(zones, is_count):
             first, last = run[0], run[-1]
             text = self.source.read(first.place, last.place + last.length - first.place)
-            position = Position(first.place, first.number + 1)
-            asked = EVERY_ROW if first.way == WHOLE and not is_count else words
-            for found in matching(self.setup, asked, text, position, True):
-                yield text, first.place, found
+            yield text, first, EVERY_ROW if first.way == WHOLE and not is_count else words
 
-    def _of_whole_file(self, words: str) -> Iterator[tuple[bytes, int, list[Match]]]:
-        position, text, read = Position(self.start, 1), b"", self.start
+    def rows(self, words: str, reader: Reader) -> Iterator[Rows]:
+        """The columns of the rows that match, some at a time. A zone whose records all match is not searched."""
+        zones = [] if self.index is None else self.index.plan(words).zones
+        for text, first, asked in self._texts_of(zones, words):
+            if asked == EVERY_ROW:
+                yield reader.read(text)
+                continue
+            for found in matching(self.setup, asked, text, Position(first.place, first.number + 1), True):
+                yield reader.read_each(text, first.place, found)
+        for text, start, found in self.matches_beyond(words):
+            yield reader.read_each(text, start, found)
+
+    def matches_beyond(self, words: str) -> Iterator[tuple[bytes, int, list[Match]]]:
+        """The same of what no index describes: all of a file, or what is new in one that has grown."""
+        if self.index is None:
+            yield from self._of_whole_file(words, Position(self.start, 1))
+        elif self._new is not None:
+            yield from self._of_whole_file(words, Position(self._new.place, self._new.number))
+
+    def _of_whole_file(self, words: str, position: Position) -> Iterator[tuple[bytes, int, list[Match]]]:
+        text, read = b"", position.place
         is_end = False
         while not is_end:
             piece = self.source.read(read, max(_PIECE, len(text)))
@@ -183,9 +229,15 @@ class _File:
         if self.has_header and self.start == 0:
             raise NoColumn(f"{name} is empty, and has no header")
         maker = Maker(sized(self.setup, rows, bounds), self.start)
+        if self.index is not None and self.may_have_grown:
+            maker = Maker(self.setup, self.start)
+            zones, statistics = list(self.index.plan(EVERY_ROW).zones), self.index.statistics()
+            # The last zone goes on where it is not full.
+            count = len(zones) - (len(zones) > 0 and zones[-1].records < self.setup.zone_rows)
+            maker.take(zones[:count], statistics[:count])
         with io.open(name, "rb", buffering=0) as file:
             before = _stamp(file)
-            file.seek(self.start)
+            file.seek(maker.end)
             self._add_zones(maker, file, before[0], tell)
             if _stamp(file) != before or maker.end != before[0]:
                 raise StaleIndex(f"{name} changed while it was read")
@@ -193,7 +245,7 @@ class _File:
         return maker
 
     def _add_zones(self, maker: Maker, file: Any, length: int, tell: Progress) -> None:
-        text, read, is_end = b"", self.start, False
+        text, read, is_end = b"", maker.end, False
         while not is_end:
             piece = file.read(max(_PIECE, len(text)))
             is_end = not piece
@@ -223,14 +275,13 @@ class _File:
         return sum(self.source.read(place, min(_PIECE, end - place)).count(b"\n") for place in range(0, end, _PIECE))
 
     def count(self, words: str) -> int:
-        if self.index is None:
-            return sum(len(found) for _, _, found in self.matches(words, True))
-        return self.count_in(self.index.plan(words, True).zones, words)
+        return self.count_in([] if self.index is None else self.index.plan(words, True).zones, words)
 
     def count_in(self, zones: Iterable[RawZone], words: str) -> int:
-        """How many rows match in the zones of a plan to count."""
+        """How many rows match in the zones of a plan to count, and in what no index describes."""
         known = sum(zone.rows for zone in zones if zone.decision == ALL_MATCH)
-        return known + sum(len(found) for _, _, found in self.matches_in(zones, words, True))
+        read = chain(self.matches_in(zones, words, True), self.matches_beyond(words))
+        return known + sum(len(found) for _, _, found in read)
 
 
 def _stamp(file: Any) -> tuple[int, int]:
@@ -266,11 +317,11 @@ class Files:
     longer = 0
     """How many records had more fields than there are columns then."""
 
-    def __init__(self, sources: list[_Source], given: bytes, has_header: bool, has_options: bool) -> None:
+    def __init__(self, sources: list[_Source], given: bytes, has_header: bool, has_options: bool, may_have_grown: bool = False) -> None:
         self._files: list[_File] = []
         try:
             for source in sources:
-                self._files.append(_File(source, given, has_header, has_options))
+                self._files.append(_File(source, given, has_header, has_options, may_have_grown))
         except BaseException:
             self.close()
             raise
@@ -317,46 +368,65 @@ class Files:
                 for one in found:
                     yield text[one.offset - start : one.offset - start + one.length]
 
-    def batches(self, where: str = EVERY_ROW, columns: Iterable[str] | None = None, rows: int = _ROWS) -> Iterator[Table]:
-        """The rows that match, so many in each table; the last one may have fewer. No table is empty."""
-        wanted = None if columns is None else list(columns)
+    def _rows(self, where: str, wanted: list[str] | None) -> Iterator[tuple[list[str], Rows]]:
+        """The names of the columns, and the rows that match, some at a time; first of all none."""
         first: dict[str, str] | None = None
-        parts: list[dict[str, Column]] = []
-        count = 0
         for file in self._files:
-            found = Rows(file.setup, places_of(file.setup, wanted))
-            kinds = {name: file.setup.columns[name] for name in found.places}
-            first = kinds if first is None else first
+            places = places_of(file.setup, wanted)
+            kinds = {name: file.setup.columns[name] for name in places}
+            reader = Reader(file.setup, places.values())
+            if first is None:
+                first = kinds
+                yield list(kinds), reader.none()
             if kinds != first:
                 raise KindsDiffer(f"{file.source.name} has the columns {kinds}, and {self._files[0].source.name} {first}: open them with columns=")
-            for text, start, matches in file.matches(where):
-                for one in matches:
-                    found.add(text[one.offset - start : one.offset - start + one.length])
-                    if count + found.count == rows:
-                        yield _table([*parts, found.columns()])
-                        parts, count = [], 0
-            if found.count:
-                count += found.count
-                parts.append(found.columns())
+            for rows in file.rows(where, reader):
+                yield list(kinds), rows
+
+    def batches(self, where: str = EVERY_ROW, columns: Iterable[str] | None = None, rows: int = _ROWS) -> Iterator[Table]:
+        """The rows that match, so many in each table; the last one may have fewer. No table is empty.
+
+        Nothing is kept but the rows of one table, and one piece of a file with the rows in it. A record that is refused is told
+        behind the tables of the rows before it.
+        """
+        if rows < 1:
+            raise ValueError(f"a table has one row at least, not {rows}")
+        names: list[str] = []
+        parts: list[Rows] = []
+        count = 0
+        try:
+            for names, found in self._rows(where, _listed(columns)):
+                while count + found.row_count >= rows:
+                    taken = rows - count
+                    yield _table(names, [*parts, found.cut(0, taken)])
+                    found, parts, count = found.cut(taken, found.row_count), [], 0
+                if found.row_count:
+                    parts.append(found)
+                    count += found.row_count
+        except BadRecord:
+            if parts:
+                yield _table(names, parts)
+            raise
         if parts:
-            yield _table(parts)
+            yield _table(names, parts)
 
     def __iter__(self) -> Iterator[Table]:
         return self.batches()
 
     def find(self, where: str = EVERY_ROW, columns: Iterable[str] | None = None) -> Table:
         """The rows that match, as a table of these columns, or of all."""
-        wanted = None if columns is None else list(columns)
-        found = [dict(batch) for batch in self.batches(where, wanted)]
-        return _table(found or [Rows(self._files[0].setup, places_of(self._files[0].setup, wanted)).columns()])
+        found = list(self._rows(where, _listed(columns)))
+        return _table(found[0][0], [rows for _, rows in found if rows.row_count] or [found[0][1]])
 
     def head(self, rows: int = 5, where: str = EVERY_ROW, columns: Iterable[str] | None = None) -> Table:
         """The first rows that match."""
-        wanted = None if columns is None else list(columns)
+        wanted = _listed(columns)
         if rows > 0:
             for batch in self.batches(where, wanted, rows):
                 return batch
-        return _table([Rows(self._files[0].setup, places_of(self._files[0].setup, wanted)).columns()])
+        for names, none in self._rows(where, wanted):
+            return _table(names, [none])
+        raise NoColumn("there is no file")
 
     def count(self, where: str = EVERY_ROW) -> int:
         """How many rows match. A zone is not read where its statistics say that all do, or none."""
@@ -368,6 +438,9 @@ class Files:
         The indexes are those that `zone_map index` makes: they have bounds of the columns' values for each zone of so many `rows`;
         bounds of strings and bytes have at most `bounds` bytes. A file is read once, piece by piece. Its index is written whole or
         not at all, beside it, and no link with its name is followed.
+
+        The indexes of files that were opened with `grown` go on: only what is new is read, and the last zone if it was not full. `rows`
+        and `bounds` stay what they were.
 
         `progress(done, total)` is called with how many bytes were read. Without it that is told on standard error, if this is a
         terminal; with False it is not.
@@ -389,8 +462,16 @@ class Files:
         return f"<Files {', '.join(self.names[:3])}{', ..' if len(self.names) > 3 else ''}: {self.columns}>"
 
 
-def _table(parts: list[dict[str, Column]]) -> Table:
-    return of_columns({name: joined([part[name] for part in parts]) for name in parts[0]})
+def _listed(columns: Iterable[str] | None) -> list[str] | None:
+    """The names of columns, which are asked for more than once."""
+    if isinstance(columns, str):
+        raise TypeError("a list of names is wanted, not a str")
+    return None if columns is None else list(columns)
+
+
+def _table(names: list[str], parts: list[Rows]) -> Table:
+    columns, count = together(parts)
+    return table_of(names, columns.__getitem__, count)
 
 
 def _paths(source: Any) -> list[Any]:
@@ -425,6 +506,7 @@ def open(
     nulls: Iterable[str] = (),
     lenient: bool = False,
     index: Any = True,
+    grown: bool = False,
 ) -> Files:
     """CSV files as a table that is searched: a path, a pattern of paths, a folder, a list of these, or a file object that has `seek`
     and `read`, as those of fsspec.
@@ -434,6 +516,9 @@ def open(
     `index`. Without an index the file is read whole, and the options are those of `zone_map`: `header`, `delimiter` (one byte, or
     `none`), `nulls`, `lenient`, and `columns` with a kind for each name; the others are guessed from the first thousand records.
     Any of these options passes the index over.
+
+    With `grown` a file may have been appended to since its index was made. What is new is searched too, and `Files.index` reads only
+    that. The last zone is compared with the index; a change before it is not seen.
 
     Raises StaleIndex if a file changed since its index was made, BadIndex for a damaged one, BadFilter for a mistake in a filter,
     and BadRecord with the first record that is no row of the columns.
@@ -452,7 +537,7 @@ def open(
     sources = [_Source(path, index) for path in _paths(source)]
     if not sources:
         raise NoColumn(f"there is no file {source!r}")
-    return Files(sources, _setup_text(columns, delimiter, words, lenient), header, has_options)
+    return Files(sources, _setup_text(columns, delimiter, words, lenient), header, has_options, grown)
 
 
 def index(

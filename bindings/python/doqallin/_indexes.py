@@ -8,14 +8,14 @@ import ctypes
 import os
 import re
 import sys
-from collections.abc import Callable
+from collections.abc import Callable, Sequence
 from ctypes import byref, c_size_t, sizeof
 from typing import Any
 
 from . import _library
-from ._errors import BadBytes, TooManyRows
-from ._library import BAD_BYTES, BAD_OFFSETS, BUFFER_TOO_SMALL, GIVEN, IndexLengths, IndexZone, SearchFault
-from ._searches import Setup, _fails, _growing
+from ._errors import BadRecord, TooManyRows
+from ._library import BAD_OFFSETS, BUFFER_TOO_SMALL, GIVEN, IndexLengths, IndexZone, RawZone, SearchFault
+from ._searches import Setup, _growing, failed
 
 __all__: list[str] = []
 
@@ -42,6 +42,22 @@ def sized(setup: Setup, rows: int, bounds: int) -> Setup:
     return Setup.of(b"\n".join(lines))
 
 
+def ends_record(setup: Setup, text: bytes) -> bool:
+    """Whether a record may begin behind a text that begins with one."""
+    one_field = Setup.of(b"%d 1 0 1\nbytes? field\n" % setup.delimiter_byte)
+    return not text or Maker(one_field, 0).add(text, False) == len(text)
+
+
+def is_zone(setup: Setup, zone: RawZone, statistics: bytes, text: bytes) -> bool:
+    """Whether a text is the zone that an index describes."""
+    maker = Maker(sized(setup, max(1, zone.records), setup.bound_length), zone.place)
+    try:
+        maker.add(text, True)
+    except BadRecord:
+        return False
+    return maker.has_zones([zone], [statistics])
+
+
 class Maker:
     """The zones of a file, of which one piece comes after another."""
 
@@ -50,6 +66,19 @@ class Maker:
         self.nulls = self.longer = 0
         self._zones, self._statistics = bytearray(), bytearray()
         self._most, self._room = _MOST, _ROOM
+
+    def take(self, zones: Sequence[RawZone], statistics: Sequence[bytes]) -> None:
+        """Takes zones that an index has, before any other."""
+        for zone, known in zip(zones, statistics):
+            self._zones += bytes(IndexZone(zone.place, zone.length, zone.records, zone.rows, len(known)))
+            self._statistics += known
+            self.end = zone.place + zone.length
+
+    def has_zones(self, zones: Sequence[RawZone], statistics: Sequence[bytes]) -> bool:
+        """Whether the zones so far are these."""
+        other = Maker(self.setup, self.start)
+        other.take(zones, statistics)
+        return (self._zones, self._statistics) == (other._zones, other._statistics)
 
     def add(self, text: bytes, is_end: bool) -> int:
         """Takes the zones of a text that stands behind those so far, and returns how many bytes of it they have."""
@@ -62,12 +91,10 @@ class Maker:
             if status != BUFFER_TOO_SMALL:
                 break
             self._most, self._room = max(self._most, lengths.zones), max(self._room, lengths.statistics)
-        if status == BAD_BYTES:
-            raise BadBytes(f"no setup: {self.setup.text.decode(errors='replace')!r}")
         if status == BAD_OFFSETS:
             raise TooManyRows("the file ends behind what 64 bits count")
         if status != GIVEN:
-            _fails(status, fault, "", self.setup)
+            raise failed(status, fault, "", self.setup)
         self._zones += memoryview(zones).cast("B")[: lengths.zones * sizeof(IndexZone)]
         self._statistics += memoryview(statistics).cast("B")[: lengths.statistics]
         self.nulls += lengths.nulls
@@ -90,7 +117,7 @@ class Maker:
         length = 96 + len(setup) + len(statistics) + 32 * count + 40 * len(self.setup.columns)
         status, buffer, written = _growing(call, ctypes.c_uint8, length)
         if status != GIVEN:
-            _fails(status, fault, "", self.setup)
+            raise failed(status, fault, "", self.setup)
         return bytes(memoryview(buffer).cast("B")[:written])
 
 

@@ -13,9 +13,9 @@ from typing import Any
 from . import _library
 from ._arrays import is_frame
 from ._arrow import is_arrow
-from ._columns import EMPTY, Buffer, Column, buffer_of
+from ._columns import EMPTY, Buffer, Column, Room, buffer_of
 from ._errors import KindsDiffer, WrongLength
-from ._kinds import BINARY, BOOL, LARGE_BINARY, NULL, ColumnKind, kind_of
+from ._kinds import BINARY, LARGE_BINARY, ColumnKind, kind_of
 from ._library import BUFFER_TOO_SMALL, ColumnBuffers, Fault, RawKind, check_column, new_buffer, new_offsets, raw_kind
 from ._reading import column, columns, raw_columns
 from ._types import DType
@@ -103,7 +103,7 @@ def from_row_keys(
     each = [kind_of(of).large for of in kinds]
     options = _options(len(each), descending, nulls_first)
     places, rows, fault = _offsets_of(one), len(one), Fault()
-    made = [_Made(kind, rows, one._values.length) for kind in each]
+    made = [Room(kind, rows, one._values.length) for kind in each]
     raws = (ColumnBuffers * max(1, len(made)))(*(buffers.raw() for buffers in made))
     status = _library.columns_of_typed_keys(
         (RawKind * max(1, len(each)))(*map(raw_kind, each)),
@@ -119,28 +119,4 @@ def from_row_keys(
         byref(fault),
     )
     check_column(status, fault)
-    return [buffers.column(raw.count) for buffers, raw in zip(made, raws)]
-
-
-class _Made:
-    """Buffers for a column of so many rows, whose strings have at most so many bytes together."""
-
-    def __init__(self, kind: ColumnKind, rows: int, most: int) -> None:
-        self.kind, self.rows = kind, rows
-        self.bitmap = (rows + 7) // 8
-        size = most if kind.has_offsets else self.bitmap if kind.code == BOOL else kind.width * rows
-        self.validity, self.values = new_buffer(self.bitmap), new_buffer(size)
-        self.offsets = new_offsets(rows + 1 if kind.has_offsets else 0)
-
-    def raw(self) -> ColumnBuffers:
-        buffers: list[ctypes.Array[Any]] = [self.validity, self.values, self.offsets]
-        each = ((ctypes.addressof(buffer), len(buffer)) for buffer in buffers)
-        return ColumnBuffers(*(part for pair in each for part in pair), 0)
-
-    def column(self, count: int) -> Column:
-        if self.kind.code == NULL:
-            return Column._of(self.kind, self.rows)
-        nulls = Buffer(ctypes.addressof(self.validity), self.bitmap, self.validity) if self.bitmap else EMPTY
-        made = Buffer(ctypes.addressof(self.values), count, self.values) if count else EMPTY
-        ends = Buffer(ctypes.addressof(self.offsets), 8 * (self.rows + 1), self.offsets) if self.kind.has_offsets else EMPTY
-        return Column._of(self.kind, self.rows, made, ends, nulls)
+    return [buffers.column(rows, raw.count) for buffers, raw in zip(made, raws)]

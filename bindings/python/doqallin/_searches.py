@@ -5,10 +5,11 @@
 from __future__ import annotations
 
 import ctypes
+import struct
 from collections.abc import Callable, Iterator, Sequence
 from ctypes import byref, c_size_t, c_uint64
 from dataclasses import dataclass
-from typing import Any, NamedTuple, NoReturn
+from typing import Any, NamedTuple
 
 from . import _library
 from ._errors import BadBytes, BadIndex, BadOffsets, BadRecord, DoqallinError, at
@@ -19,7 +20,6 @@ from ._library import (
     BAD_OFFSETS,
     BUFFER_TOO_SMALL,
     GIVEN,
-    NOT_UTF8,
     REFUSED,
     ByteRange,
     Found,
@@ -30,7 +30,6 @@ from ._library import (
     SearchFault,
     check,
     encoded,
-    new_buffer,
 )
 
 __all__: list[str] = []
@@ -44,8 +43,9 @@ EVERY_ROW = "true"
 
 _OF_INDEX = ("the index is cut", "this is no index", "another version wrote the index", "the index is damaged", "bytes follow the index")
 _OF_RECORD = ("a field is of another kind than its column", "it has more or fewer fields than there are columns", "a carriage return is before its end")
-# How many records are found by one call.
+# How many records are found by one call, and what is said of each.
 _FOUND = 4096
+_FIELDS = struct.Struct("=3Q")
 
 Read = Callable[[int, int], bytes]
 
@@ -55,34 +55,33 @@ class Setup:
     """How the records of a file are read, as the library writes it."""
 
     text: bytes
-    delimiter: bytes
-    is_lenient: bool
+    delimiter_byte: int
+    bound_length: int
     zone_rows: int
-    nulls: frozenset[bytes]
     columns: dict[str, str]
 
     @classmethod
     def of(cls, text: bytes) -> Setup:
-        lines = text.split(b"\n")[:-1]
-        nulls = frozenset(line.removeprefix(b"null ") for line in lines if line.startswith(b"null "))
-        numbers, *named = [line for line in lines if not line.startswith(b"null ")]
-        delimiter, is_lenient, _, zone_rows = map(int, numbers.split(b" "))
+        numbers, *named = [line for line in text.split(b"\n")[:-1] if not line.startswith(b"null ")]
+        delimiter, _, bound_length, zone_rows = map(int, numbers.split(b" "))
         kinds = [line.decode().partition(" ")[::2] for line in named]
-        return cls(text, b"" if delimiter == 255 else bytes([delimiter]), is_lenient == 1, zone_rows, nulls, {name: kind for kind, name in kinds})
+        return cls(text, delimiter, bound_length, zone_rows, {name: kind for kind, name in kinds})
 
 
-def _fails(status: int, fault: SearchFault, words: str, setup: Setup | None = None) -> NoReturn:
-    """Raises what the status of a search says."""
+def failed(status: int, fault: SearchFault, words: str, setup: Setup | None = None) -> DoqallinError:
+    """The error that the status of a search says."""
+    if status == BAD_BYTES and setup is not None:
+        return BadBytes(f"no setup: {setup.text.decode(errors='replace')!r}")
     if status == BAD_BYTES:
-        raise BadIndex(_OF_INDEX[fault.reason])
+        return BadIndex(_OF_INDEX[fault.reason])
     if status == BAD_FILTER:
-        raise filter_mistake(words, fault.place, fault.reason)
+        return filter_mistake(words, fault.place, fault.reason)
     if status == BAD_OFFSETS:
-        raise at(BadOffsets(f"zone {fault.place} of the index ends behind what 64 bits count"), fault.place)
+        return at(BadOffsets(f"zone {fault.place} of the index ends behind what 64 bits count"), fault.place)
     if status == REFUSED:
-        raise _bad_record(fault, setup)
+        return _bad_record(fault, setup)
     check(status)
-    raise DoqallinError(f"status {status}")
+    return DoqallinError(f"status {status}")
 
 
 def _bad_record(fault: SearchFault, setup: Setup | None) -> BadRecord:
@@ -121,7 +120,7 @@ class Index:
         head = read(0, HEAD)
         status = _library.index_root_length(head, len(head), byref(length), byref(fault))
         if status != GIVEN:
-            _fails(status, fault, "")
+            raise failed(status, fault, "")
         self._root = head + read(HEAD, length.value - HEAD)
         self.parts = IndexParts()
 
@@ -131,7 +130,7 @@ class Index:
 
         status, buffer, count = _growing(call, ctypes.c_uint8, 1024)
         if status != GIVEN:
-            _fails(status, fault, "")
+            raise failed(status, fault, "")
         self.setup = Setup.of(bytes(buffer[:count]))
 
     def _blocks(self, words: str) -> bytes:
@@ -144,19 +143,35 @@ class Index:
 
         status, ranges, count = _growing(call, ByteRange, self.parts.block_count or 1)
         if status != GIVEN:
-            _fails(status, fault, words)
+            raise failed(status, fault, words)
         return b"".join(self._read(part.place, part.length) for part in ranges[:count])
+
+    def statistics(self) -> list[bytes]:
+        """The statistics of each zone: for each column a piece behind its length. A plan has tested the bytes."""
+        words = " or ".join('"{}" is null'.format(name.replace('"', '""')) for name in self.setup.columns) or EVERY_ROW
+        blocks = self._blocks(words)
+        found: list[list[bytes]] = [[] for _ in self._planned(blocks, words, False).zones]
+        place = 0
+        for _ in self.setup.columns:
+            for pieces in found:
+                end = place + 8 + int.from_bytes(blocks[place : place + 8], "little")
+                pieces.append(blocks[place:end])
+                place = end
+        return [b"".join(pieces) for pieces in found]
 
     def plan(self, words: str, is_count: bool = False) -> Plan:
         """What to do with each zone, and what to read of the file."""
-        blocks, text, fault = self._blocks(words), encoded(words), SearchFault()
+        return self._planned(self._blocks(words), words, is_count)
+
+    def _planned(self, blocks: bytes, words: str, is_count: bool) -> Plan:
+        text, fault = encoded(words), SearchFault()
         most = self.parts.zone_count or 1
         zones, ranges, lengths = (RawZone * most)(), (ByteRange * most)(), PlanLengths()
         status = _library.search_plan(
             self._root, len(self._root), blocks, len(blocks), text, len(text), DEPTH, is_count, zones, most, ranges, most, byref(lengths), byref(fault)
         )
         if status != GIVEN:
-            _fails(status, fault, words)
+            raise failed(status, fault, words)
         return Plan(zones[: lengths.zones], ranges[: lengths.ranges])
 
 
@@ -172,7 +187,7 @@ def guessed(first: bytes, given: bytes, has_header: bool, is_all: bool) -> tuple
     if status == BAD_BYTES:
         raise BadBytes(f"no columns, or no delimiter: {given.decode(errors='replace')!r}")
     if status != GIVEN:
-        _fails(status, fault, "")
+        raise failed(status, fault, "")
     return Setup.of(bytes(buffer[:count])), start.value
 
 
@@ -189,18 +204,15 @@ def matching(setup: Setup, words: str, text: bytes, position: Position, is_end: 
 
     BadRecord comes behind the records that match before that one."""
     asked, first, fault, count = encoded(words), position.place, SearchFault(), c_size_t()
-    found = (Found * _FOUND)()
+    found, start = (Found * _FOUND)(), ctypes.cast(ctypes.c_char_p(text), ctypes.c_void_p).value or 0
     while True:
-        rest = text[position.place - first :] if position.place > first else text
-        before = position.place
+        before, judged = position.place, position.place - first
         status = _library.search_records(
-            setup.text, len(setup.text), asked, len(asked), DEPTH, rest, len(rest), is_end, byref(position), found, _FOUND, byref(count), byref(fault)
+            setup.text, len(setup.text), asked, len(asked), DEPTH, ctypes.c_char_p(start + judged), len(text) - judged, is_end, byref(position), found, _FOUND, byref(count), byref(fault)
         )
-        if status == BAD_BYTES:
-            raise BadBytes(f"no setup: {setup.text.decode(errors='replace')!r}")
         if status in (GIVEN, REFUSED) and count.value:
-            yield [Match(one.place, one.length, one.number) for one in found[: count.value]]
+            yield list(map(Match._make, _FIELDS.iter_unpack(memoryview(found).cast("B")[: count.value * _FIELDS.size])))
         if status != GIVEN:
-            _fails(status, fault, words, setup)
+            raise failed(status, fault, words, setup)
         if count.value < _FOUND or position.place == before:
             return

@@ -131,7 +131,7 @@ impl Item {
 }
 
 /// The integer that is stored as these bytes.
-fn whole(kind: Kind, bytes: &[u8]) -> i128 {
+pub(crate) fn whole(kind: Kind, bytes: &[u8]) -> i128 {
     let is_negative = kind.is_signed() && bytes[bytes.len() - 1] >= 128;
     let mut whole = [if is_negative { 255 } else { 0 }; 16];
     whole[..bytes.len()].copy_from_slice(bytes);
@@ -181,7 +181,7 @@ macro_rules! stored {
 stored! { i32 i64 i128 }
 
 /// The bytes of integers or floats.
-fn bytes_of<T>(items: &[T]) -> &[u8] {
+pub(crate) fn bytes_of<T>(items: &[T]) -> &[u8] {
     // SAFETY: numbers have no padding, and each of their bytes is one. The length in bytes is that of the slice.
     unsafe { std::slice::from_raw_parts(items.as_ptr().cast(), size_of_val(items)) }
 }

@@ -2,7 +2,7 @@
 // SPDX-FileCopyrightText: Copyright the Vortex contributors; ported to Rattle and changed
 //! Keys of rows: bytes that sort as the rows do.
 
-use crate::arrow::RawColumns;
+use crate::arrow::{RawColumns, bytes_of, whole};
 use crate::{Column, Item, Kind, RowsError, out_of_memory, raw};
 use std::fmt;
 
@@ -298,7 +298,7 @@ impl<'a> IntoIterator for &'a RowKeys {
     }
 }
 
-/// A column that was made of keys: a bitmap of the rows that are not null, the values, and offsets of strings and bytes.
+/// A column that the library wrote: a bitmap of the rows that are not null, the values, and offsets of strings and bytes.
 #[derive(Clone, Debug, PartialEq, Eq)]
 pub struct OwnedColumn {
     kind: Kind,
@@ -310,7 +310,7 @@ pub struct OwnedColumn {
 
 impl OwnedColumn {
     /// Buffers for a column of so many rows, whose strings have at most so many bytes together.
-    fn buffer_for(kind: Kind, length: usize, bytes: usize) -> OwnedColumn {
+    pub(crate) fn buffer_for(kind: Kind, length: usize, bytes: usize) -> OwnedColumn {
         let bitmap = length.div_ceil(8);
         let (values, offsets) = match (kind, kind.width()) {
             (_, Some(width)) => (width * length, 0),
@@ -328,7 +328,7 @@ impl OwnedColumn {
     }
 
     /// Where the column is written.
-    fn buffers(&mut self) -> raw::ColumnBuffers {
+    pub(crate) fn buffers(&mut self) -> raw::ColumnBuffers {
         raw::ColumnBuffers {
             validity: self.validity.as_mut_ptr(),
             validity_length: self.validity.len(),
@@ -340,10 +340,83 @@ impl OwnedColumn {
         }
     }
 
+    /// Makes room for so many rows, whose strings have at most so many bytes together. Memory is kept for later.
+    pub(crate) fn make_room(&mut self, length: usize, bytes: usize) {
+        let (values, offsets) = match self.kind.width() {
+            Some(width) => (width * length, 0),
+            None => (bytes, length + 1),
+        };
+        self.validity.resize(length.div_ceil(8), 0);
+        self.values.resize(values, 0);
+        self.offsets.resize(offsets, 0);
+    }
+
+    /// Leaves the rows that were written, and so many bytes of values.
+    pub(crate) fn cut(&mut self, length: usize, bytes: usize) {
+        self.length = length;
+        self.validity.truncate(length.div_ceil(8));
+        self.values.truncate(bytes);
+        if !self.offsets.is_empty() {
+            self.offsets.truncate(length + 1);
+        }
+    }
+
     /// The kind. Strings and bytes have offsets of 64 bits.
     #[must_use]
     pub fn kind(&self) -> Kind {
         self.kind
+    }
+
+    /// The column as others take it, where it lies.
+    #[must_use]
+    pub fn as_column(&self) -> Column<'_> {
+        let offsets = bytes_of(&self.offsets);
+        Column::from_buffers(self.kind, &self.values, offsets, 0, self.length)
+            .with_validity(&self.validity)
+    }
+
+    /// Whether a row is null, or is none.
+    #[must_use]
+    pub fn is_null(&self, row: usize) -> bool {
+        let is_valid = || self.validity[row / 8] >> (row % 8) & 1 == 1;
+        row >= self.length || self.kind == Kind::Null || !is_valid()
+    }
+
+    /// The bytes of a row that is not null: of a string, or of an item as it is stored.
+    #[must_use]
+    pub fn bytes(&self, row: usize) -> Option<&[u8]> {
+        if self.is_null(row) || self.kind == Kind::Bool {
+            return None;
+        }
+        Some(match self.kind.width() {
+            Some(width) => &self.values[row * width..][..width],
+            None => &self.values[self.offsets[row] as usize..self.offsets[row + 1] as usize],
+        })
+    }
+
+    /// The string of a row that is not null.
+    #[must_use]
+    pub fn text(&self, row: usize) -> Option<&str> {
+        let is_text = self.kind == Kind::LargeUtf8;
+        std::str::from_utf8(self.bytes(row).filter(|_| is_text)?).ok()
+    }
+
+    /// The integer of a row that is not null: of a decimal, a date, a time or a timestamp the one that stores it.
+    #[must_use]
+    pub fn integer(&self, row: usize) -> Option<i128> {
+        let is_integer = self.kind.width().is_some() && !matches!(self.kind, Kind::F32 | Kind::F64);
+        Some(whole(self.kind, self.bytes(row).filter(|_| is_integer)?))
+    }
+
+    /// The float of a row that is not null, of either width.
+    #[must_use]
+    pub fn float(&self, row: usize) -> Option<f64> {
+        let bytes = self.bytes(row)?;
+        match self.kind {
+            Kind::F32 => Some(f32::from_le_bytes(bytes.try_into().ok()?).into()),
+            Kind::F64 => Some(f64::from_le_bytes(bytes.try_into().ok()?)),
+            _ => None,
+        }
     }
 
     /// How many rows it has.
@@ -367,17 +440,9 @@ impl OwnedColumn {
     /// The value of a row. `None` if it is null, or if there is no such row.
     #[must_use]
     pub fn get(&self, row: usize) -> Option<Item> {
-        let bit = |bitmap: &[u8]| bitmap[row / 8] >> (row % 8) & 1 == 1;
-        if row >= self.length || self.kind == Kind::Null || !bit(&self.validity) {
-            return None;
+        if self.kind == Kind::Bool && !self.is_null(row) {
+            return Some(Item::Bool(self.values[row / 8] >> (row % 8) & 1 == 1));
         }
-        Some(match (self.kind, self.kind.width()) {
-            (kind, Some(width)) => Item::of(kind, &self.values[row * width..][..width]),
-            (Kind::Bool, _) => Item::Bool(bit(&self.values)),
-            (kind, _) => {
-                let (start, end) = (self.offsets[row] as usize, self.offsets[row + 1] as usize);
-                Item::of(kind, &self.values[start..end])
-            }
-        })
+        self.bytes(row).map(|bytes| Item::of(self.kind, bytes))
     }
 }

@@ -174,6 +174,39 @@ impl Kind {
         }
     }
 
+    /// The kind of a code of C's.
+    pub(crate) fn of_code(of: KindCode) -> Option<Kind> {
+        let units = [
+            TimeUnit::Seconds,
+            TimeUnit::Milliseconds,
+            TimeUnit::Microseconds,
+            TimeUnit::Nanoseconds,
+        ];
+        let widths = [
+            DecimalWidth::Bits32,
+            DecimalWidth::Bits64,
+            DecimalWidth::Bits128,
+        ];
+        let code = usize::from(of.code);
+        Some(match code {
+            0..8 => Kind::INTEGERS[code],
+            8 => Kind::Bool,
+            9 => Kind::Utf8,
+            10 => Kind::LargeUtf8,
+            11 => Kind::Binary,
+            12 => Kind::LargeBinary,
+            13 => Kind::Null,
+            14 => Kind::F32,
+            15 => Kind::F64,
+            16 => Kind::Date32,
+            17..21 => Kind::Time(units[code - 17]),
+            21..25 => Kind::Timestamp(units[code - 21]),
+            25..29 => Kind::TimestampUtc(units[code - 25]),
+            29..32 => Kind::Decimal(DecimalKind::new(widths[code - 29], of.precision, of.scale)?),
+            _ => return None,
+        })
+    }
+
     pub(crate) fn is_integer(self) -> bool {
         Kind::INTEGERS.contains(&self)
     }

@@ -42,6 +42,7 @@
 //! ```
 
 mod arrow;
+mod batches;
 #[cfg(feature = "call")]
 mod call;
 mod column;
@@ -60,6 +61,7 @@ mod truncation;
 mod zone;
 
 pub use arrow::{Buffer, CastError, Column, ColumnFault, Item, RowsError, Stored, cast_column};
+pub use batches::Batch;
 #[cfg(feature = "call")]
 pub use call::{call, call_within};
 pub use column::{ColumnError, column_bounds, column_bounds_text};

@@ -428,6 +428,30 @@ unsafe extern "C" {
         count: &mut usize,
         fault: &mut SearchFault,
     ) -> u32;
+    pub fn doqallin_column_kinds(
+        setup: *const u8,
+        setup_length: usize,
+        kinds: *mut KindCode,
+        kinds_length: usize,
+        count: &mut usize,
+        fault: &mut SearchFault,
+    ) -> u32;
+    pub fn doqallin_search_columns(
+        setup: *const u8,
+        setup_length: usize,
+        words: *const u8,
+        words_length: usize,
+        depth: usize,
+        place: u64,
+        text: *const u8,
+        text_length: usize,
+        wanted: *const usize,
+        wanted_length: usize,
+        columns: *mut ColumnBuffers,
+        column_count: usize,
+        rows: &mut usize,
+        fault: &mut SearchFault,
+    ) -> u32;
     pub fn doqallin_guess_setup(
         setup: *const u8,
         setup_length: usize,

@@ -13,7 +13,7 @@ use std::path::Path;
 use std::time::UNIX_EPOCH;
 
 /// How deep a filter may nest: each level takes stack.
-const DEPTH: usize = 32;
+pub(crate) const DEPTH: usize = 32;
 /// So many bytes are read at once.
 pub(crate) const PIECE: u64 = 4 << 20;
 /// Columns are guessed from so many bytes.
@@ -24,7 +24,7 @@ const FOUND: usize = 1024;
 const LINK: &str =
     "a link has the name of the index, and none is followed: remove it, and make the index again";
 /// Each record that is a row matches.
-const EVERY_ROW: &str = "true";
+pub(crate) const EVERY_ROW: &str = "true";
 
 /// Why a file is not searched.
 #[derive(Debug)]
@@ -45,6 +45,8 @@ pub enum SearchError {
     StaleIndex,
     /// How the records are to be read cannot be read itself: columns, delimiter and words that are nulls.
     BadReading,
+    /// The file has no column of this name.
+    NoColumn(String),
     /// The record at this offset is no row of the columns. The column that does not take its field is named, if it is one.
     BadRecord {
         /// Where the record begins.
@@ -64,6 +66,7 @@ impl fmt::Display for SearchError {
                 f.write_str("the file is not as it was when its index was made")
             }
             SearchError::BadReading => f.write_str("the columns or the delimiter cannot be read"),
+            SearchError::NoColumn(name) => write!(f, "there is no column {name:?}"),
             SearchError::BadRecord {
                 offset,
                 column: Some(column),
@@ -475,22 +478,25 @@ impl<R: Read + Seek> Search<R> {
         Ok(zones.iter().map(zone).collect())
     }
 
+    /// What a search by this filter does with each zone, if there is an index.
+    pub(crate) fn zones(&mut self, filter: &str) -> Result<Option<Vec<RawZone>>, SearchError> {
+        let plan = |index: &mut Index<R>| index.plan(filter, false);
+        self.index.as_mut().map(plan).transpose()
+    }
+
     /// Gives each record that matches, in the file's order. `BadRecord` comes behind those before that record.
     pub fn each(
         &mut self,
         filter: &str,
         mut found: impl FnMut(Record<'_>),
     ) -> Result<(), SearchError> {
-        match &mut self.index {
-            Some(index) => {
-                let zones = index.plan(filter, false)?;
-                self.each_of_zones(
-                    filter,
-                    &zones,
-                    |zone| (zone.way != 0).then_some(zone.way),
-                    &mut found,
-                )
-            }
+        match self.zones(filter)? {
+            Some(zones) => self.each_of_zones(
+                filter,
+                &zones,
+                |zone| (zone.way != 0).then_some(zone.way),
+                &mut found,
+            ),
             None => self.each_of_file(filter, &mut found),
         }
     }
@@ -521,7 +527,7 @@ impl<R: Read + Seek> Search<R> {
         }
     }
 
-    /// The records that match in the zones that have a way, those next to each other read at once.
+    /// The records that match in the zones that have a way.
     fn each_of_zones(
         &mut self,
         filter: &str,
@@ -529,31 +535,46 @@ impl<R: Read + Seek> Search<R> {
         way: impl Fn(&RawZone) -> Option<u8>,
         found: &mut impl FnMut(Record<'_>),
     ) -> Result<(), SearchError> {
+        let setup = self.setup.clone();
+        self.each_text(filter, zones, way, |words, text, mut position| {
+            judge(&setup, words, text, true, &mut position, found)
+        })
+    }
+
+    /// The texts of the zones that have a way, those next to each other read at once: what is sought in each, its bytes, and where
+    /// its first record begins.
+    pub(crate) fn each_text(
+        &mut self,
+        filter: &str,
+        zones: &[RawZone],
+        way: impl Fn(&RawZone) -> Option<u8>,
+        mut take: impl FnMut(&str, &[u8], Position) -> Result<(), SearchError>,
+    ) -> Result<(), SearchError> {
         let are_one = |a: &RawZone, b: &RawZone| way(a) == way(b) && a.place + a.length == b.place;
+        let mut text = Vec::new();
         for run in zones.chunk_by(are_one) {
             let Some(taken) = way(&run[0]) else { continue };
             for some in run.chunks(64) {
                 let (first, last) = (&some[0], &some[some.len() - 1]);
-                let mut text = Vec::new();
+                text.clear();
                 read_at(
                     &mut self.file,
                     first.place,
                     last.place + last.length - first.place,
                     &mut text,
                 )?;
-                let mut position = Position {
+                let position = Position {
                     place: first.place,
                     number: first.number + 1,
                 };
-                let words = if taken == 1 { EVERY_ROW } else { filter };
-                judge(&self.setup, words, &text, true, &mut position, found)?;
+                take(if taken == 1 { EVERY_ROW } else { filter }, &text, position)?;
             }
         }
         Ok(())
     }
 
     /// The records that match in a file that is read whole.
-    fn each_of_file(
+    pub(crate) fn each_of_file(
         &mut self,
         filter: &str,
         found: &mut impl FnMut(Record<'_>),
@@ -579,7 +600,7 @@ impl<R: Read + Seek> Search<R> {
 }
 
 /// Gives the records of a text that match. The position goes on to the first record that was not judged.
-fn judge(
+pub(crate) fn judge(
     setup: &[u8],
     filter: &str,
     text: &[u8],
