@@ -221,36 +221,59 @@ static bool write_comparison(sqlite3_str *words, const struct column *column, in
     return is_written && text != NULL;
 }
 
-// Adds a value of a list: its literal, or else both ends of what it may be.
-static bool write_value(sqlite3_str *list, const struct column *column, bool has_ends, sqlite3_value *value) {
-    if (!has_ends)
-        return write_literal(list, column, value);
-    sqlite3_str *ends = sqlite3_str_new(NULL);
-    bool is_written = write_comparison(ends, column, SQLITE_INDEX_CONSTRAINT_EQ, value);
-    char *text = sqlite3_str_finish(ends);
-    sqlite3_str_appendf(list, "(%s)", text == NULL ? "" : text);
+// A value of a list as words: its literal, or else both ends of what it may be. NULL, if it has none.
+static char *words_of_value(const struct column *column, bool has_ends, sqlite3_value *value) {
+    sqlite3_str *words = sqlite3_str_new(NULL);
+    bool is_written = has_ends ? write_comparison(words, column, SQLITE_INDEX_CONSTRAINT_EQ, value) : write_literal(words, column, value);
+    char *text = sqlite3_str_finish(words);
+    if (is_written)
+        return text;
     sqlite3_free(text);
-    return is_written && text != NULL;
+    return NULL;
+}
+
+// One of the words or another; by halves, so that few parentheses nest.
+static void write_any(sqlite3_str *list, char **words, int count) {
+    sqlite3_str_appendall(list, "(");
+    if (count == 1) {
+        sqlite3_str_appendall(list, words[0]);
+    } else {
+        write_any(list, words, count / 2);
+        sqlite3_str_appendall(list, " or ");
+        write_any(list, words + count / 2, count - count / 2);
+    }
+    sqlite3_str_appendall(list, ")");
+}
+
+static void write_values(sqlite3_str *words, const struct column *column, bool has_ends, char **values, int count) {
+    sqlite3_str_appendall(words, sqlite3_str_length(words) > 0 ? " and " : "");
+    if (has_ends) {
+        write_any(words, values, count);
+        return;
+    }
+    write_name(words, column);
+    for (int place = 0; place < count; place++)
+        sqlite3_str_appendf(words, "%s%s", place == 0 ? " in (" : ", ", values[place]);
+    sqlite3_str_appendall(words, ")");
 }
 
 static bool write_list(sqlite3_str *words, const struct column *column, sqlite3_value *operand) {
     bool has_ends = column->kind == DECIMAL || column->kind == TIMESTAMP || column->kind == CLOCK;
-    sqlite3_str *list = sqlite3_str_new(NULL);
+    char **values = sqlite3_malloc64(MOST_VALUES * sizeof *values);
     sqlite3_value *value;
-    int count = 0, status;
-    bool are_written = true;
-    for (status = sqlite3_vtab_in_first(operand, &value); status == SQLITE_OK && value != NULL && are_written; status = sqlite3_vtab_in_next(operand, &value)) {
-        sqlite3_str_appendall(list, count == 0 ? "(" : has_ends ? " or " : ", ");
-        are_written = ++count <= MOST_VALUES && write_value(list, column, has_ends, value);
+    int count = 0, status = sqlite3_vtab_in_first(operand, &value);
+    while (values != NULL && status == SQLITE_OK && value != NULL && count < MOST_VALUES) {
+        if ((values[count] = words_of_value(column, has_ends, value)) == NULL)
+            break;
+        count++;
+        status = sqlite3_vtab_in_next(operand, &value);
     }
-    sqlite3_str_appendall(list, ")");
-    char *text = sqlite3_str_finish(list);
-    are_written = are_written && count > 0 && text != NULL && status == SQLITE_DONE;
-    if (are_written && has_ends)
-        sqlite3_str_appendf(words, "%s%s", sqlite3_str_length(words) > 0 ? " and " : "", text);
-    else if (are_written)
-        write_end(words, column, "in", text);
-    sqlite3_free(text);
+    bool are_written = count > 0 && status == SQLITE_DONE;
+    if (are_written)
+        write_values(words, column, has_ends, values, count);
+    for (int place = 0; place < count; place++)
+        sqlite3_free(values[place]);
+    sqlite3_free(values);
     return are_written;
 }
 

@@ -65,7 +65,8 @@ class Reader:
 
     def __init__(self, setup: Setup, places: Iterable[int]) -> None:
         self._setup, self._places = setup, list(places)
-        self.kinds = [kinds_of(setup)[place] for place in self._places]
+        kinds = kinds_of(setup)
+        self.kinds = [kinds[place] for place in self._places]
         self._wanted = (c_size_t * max(1, len(self._places)))(*self._places)
         # What is written by one call is copied, as long as it is, before the next one writes over it.
         self._rooms: list[Room] = []
