@@ -6,4 +6,5 @@ mod ObservedFields
 pub mod Reading
 mod Typed
 mod Walking
+mod Wanting
 mod Within

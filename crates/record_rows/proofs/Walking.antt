@@ -25,13 +25,13 @@ front_push : (fs : List Field) (f : Field) (rows : List (List Field)) → with_f
 front_push [] f rows = refl
 front_push (g ∷ fs) f rows = ap (onto_first g) (front_push fs f rows)
 
-front_row : (fs row : List Field) (rows : List (List Field)) → with_front fs (row ∷ rows) ≡ (fs ++ row) ∷ rows
+pub front_row : (fs row : List Field) (rows : List (List Field)) → with_front fs (row ∷ rows) ≡ (fs ++ row) ∷ rows
 front_row [] row rows = refl
 front_row (f ∷ fs) row rows = ap (onto_first f) (front_row fs row rows)
 
 -- ---- records of another length
 
-fitted_front : (l : Bool) (cs : List ColumnType) (fs more : List Field) → length fs ≤ length cs → fitted l cs (fs ++ more) ≡ fs ++ fitted l (drop (length fs) cs) more
+pub fitted_front : (l : Bool) (cs : List ColumnType) (fs more : List Field) → length fs ≤ length cs → fitted l cs (fs ++ more) ≡ fs ++ fitted l (drop (length fs) cs) more
 fitted_front false cs fs more h = refl
 fitted_front true cs [] more h = refl
 fitted_front true [] (f ∷ fs) more h = absurd (omega (arith, h))

@@ -5,4 +5,5 @@ pub mod Observed
 pub mod Readings
 pub mod Rows
 pub mod Walks
+pub mod Wanted
 pub mod Words

@@ -17,6 +17,7 @@ mod rows;
 mod schema;
 mod taking;
 mod texts;
+mod wanted;
 mod words;
 
 pub use errors::{ObserveError, RowReadError};
@@ -25,3 +26,4 @@ pub use observing::{RowNotes, observe_record};
 pub use rows::{read_cells, read_row};
 pub use schema::{ColumnType, FieldReading, Kind, Schema, dtype_of};
 pub use texts::{csv_rows, is_whole_record, may_cut, split_records};
+pub use wanted::read_wanted;

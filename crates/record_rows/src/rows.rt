@@ -90,7 +90,7 @@ fn read_fields(
 }
 
 /// Whether the cell of a column is wanted.
-fn is_wanted(wanted: &[bool], place: usize) -> bool
+pub(crate) fn is_wanted(wanted: &[bool], place: usize) -> bool
     ensures { result ≡ is_wanted wanted.now place }
 {
     if place < wanted.len() {
@@ -128,7 +128,7 @@ fn put_at(
 
 /// Sees that some scalar stands at a place.
 #[inline(always)]
-fn fill_at(row: &mut Vec<Scalar>, place: usize) -> Result<(), AllocError>
+pub(crate) fn fill_at(row: &mut Vec<Scalar>, place: usize) -> Result<(), AllocError>
     requires { place ≤ length row.old.items }
     ensures put { OnOk result ((cell : Scalar) × (take (place + 1) row.new.items ≡
         take place row.old.items ++ cell ∷ [])) }

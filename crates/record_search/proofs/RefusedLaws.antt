@@ -16,7 +16,7 @@ use Rattle.zone_index.specs.Errors.{IfRecordRefused, TellsRecord}
 use Rattle.record_search.specs.Contents.{cell_before, cells_of, field_content, only_row, or_null, word_content}
 use Rattle.record_search.specs.Named.{AgreeAsRows}
 use Rattle.record_search.specs.Refused.{RefusesRecord, fault_at_place}
-use Rattle.record_search.specs.Searched.{has_fields, is_refused, row_under}
+use Rattle.record_search.specs.Searched.{has_fields, has_row, is_refused, row_under}
 use Rattle.record_search.proofs.RowLaws.{WordsSay, none_word}
 
 pub row_refused : (s : Schema) (place : ℕ) (line : List ℕ) (f : RowReadError) → Refuses s.delimiter.byte s.reading s.columns.items line f → IfRecordRefused (TellsRecord (RefusesRecord s) place line) (fault_at_place place f)
@@ -75,6 +75,14 @@ row_passes rows o row e = rw e (and_false (has_fields rows))
 
 pub passed_row : (s : Schema) (line : List ℕ) (row : List Cell) → row_under s line ≡ Some row → is_refused s line ≡ false
 passed_row s line row e = row_passes (rows_of s.delimiter.byte line) (row_under s line) row e
+
+-- a record that has a row is not refused
+pub passed_has : (s : Schema) (line : List ℕ) → has_row s line ≡ true → is_refused s line ≡ false
+passed_has s line has = by_row (row_under s line) refl has
+  where
+    by_row : (o : Option (List Cell)) → row_under s line ≡ o → is_some o ≡ true → is_refused s line ≡ false
+    by_row None e t = absurd cc
+    by_row (Some row) e t = passed_row s line row e
 
 pub passed_none : (s : Schema) (line : List ℕ) → rows_of s.delimiter.byte line ≡ [] → is_refused s line ≡ false
 passed_none s line e = rw e refl

@@ -7,7 +7,7 @@ ghost use Rattle.record_search.specs.Words.{is_refused, matches_record};
 use crate::laws::decisions_are_right;
 use crate::naming::mark_named;
 use crate::reading::read_statistics;
-use crate::schema::{Schema, cells_of_record};
+use crate::schema::{Schema, cells_of_record, cells_of_row};
 use csv_records::Delimiter;
 use filter_pruning::{Outcomes, outcomes_of};
 use std::alloc::{AllocError, Global};
@@ -78,6 +78,22 @@ impl Matcher for RowFilter<'_> {
             Ok(self.filter.matches(row))
         } else {
             Ok(false)
+        }
+    }
+
+    fn is_match_of_row(
+        &self,
+        alloc: Global,
+        scratch: &mut RowScratch,
+        line: &[u8],
+    ) -> Result<bool, RecordError> {
+        named_columns_decide();
+        mark_named(self.filter, self.schema.columns.len(), &mut scratch.named)?;
+        let RowScratch { named, row } = scratch;
+        if cells_of_row(alloc, self.schema, named, line, row) {
+            Ok(self.filter.matches(row))
+        } else {
+            self.is_match(alloc, scratch, line)
         }
     }
 

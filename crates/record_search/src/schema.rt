@@ -2,11 +2,11 @@
 
 ghost use Rattle.std.specs.Prelude.{◌≡◌, None, Some, IfErr, IfOk, OnOk, false, if◌then◌else◌, map, option_map, true};
 ghost use Rattle.record_search.specs.Words.{AgreeAsRows, IfRecordRefused, RefusesRecord, TellsRecord, cell_of};
-ghost use Rattle.record_search.specs.Words.{fault_at_place, is_refused, row_cells, row_under};
+ghost use Rattle.record_search.specs.Words.{fault_at_place, has_row, is_refused, row_cells, row_under};
 
 use logical_types::laws::shapes_say_words;
 pub use record_rows::Schema;
-use record_rows::{RowReadError, read_cells, read_row};
+use record_rows::{RowReadError, read_cells, read_row, read_wanted};
 use std::alloc::Global;
 use vortex_value::Scalar;
 use zone_index::{Cause, RecordError, Refusal};
@@ -55,6 +55,22 @@ pub(crate) fn cells_of_record(
         Ok(None) => Ok(false),
         Err(fault) => Err(record_fault(place, fault)),
     }
+}
+
+/// Reads some cells of a record that is known to have a row into a vector that is used again, and says whether it
+/// did: those of the columns at whose place the list has no `false`. The other fields are not tested.
+pub(crate) fn cells_of_row(
+    alloc: Global,
+    schema: &Schema,
+    wanted: &[bool],
+    line: &[u8],
+    row: &mut Vec<Scalar>,
+) -> bool
+    ensures { result ≡ true → has_row schema.now line.now ≡ true
+        → AgreeAsRows wanted.now (Some (map cell_of row.new.items)) (row_under schema.now line.now) }
+{
+    shapes_say_words();
+    read_wanted(alloc, schema, wanted, line, row)
 }
 
 /// The error of a record that stands at this offset.

@@ -1,8 +1,9 @@
 -- What is read and written of a zone.
 use Rattle.std.proofs.Common.{◌≡◌, ◌≤◌, ◌+◌, ℕ, suc, zero, List, [], ◌∷◌, ◌++◌, ◌==◌, ◌&&◌, Bool, true, false, not, cond, Option, refl, sym, ap, ◌∙◌, subst, length, take, drop, arith}
+use Rattle.std.proofs.lemmas.Bool.Decides.{nat_tests}
 use Rattle.std.proofs.lemmas.List.{drop-take, length-take, length-drop, take-take}
 use Rattle.std.proofs.lemmas.List.Sums.{count_by-le-length, length-filter, sum_by-cons}
-use Rattle.std.specs.Prelude.{IfSome}
+use Rattle.std.specs.Prelude.{IfOk, IfSome, Result, Ok, Err}
 use lib.Seq.{take-append_seam}
 use Rattle.std.specs.List.{AllPass, count_by, filter, onto_first}
 use Rattle.csv.specs.Machine.{step}
@@ -11,8 +12,9 @@ use Rattle.csv.specs.declared.parser.State.TheVariants as st
 use Rattle.csv_records.specs.Records.{is_start, records_from, records_of}
 use Rattle.csv_records.specs.Rows.{config_of}
 use Rattle.zone_index.specs.Asking.{Asks, AsksWithin, IsWithin}
-use Rattle.zone_index.specs.Records.{is_same}
+use Rattle.zone_index.specs.Records.{HasRowIf, HaveRowsIf, is_same}
 use Rattle.zone_index.specs.Zones.{Agree, AsksInPart, AsksOfZone, IsHeld, IsZoneOf, is_open, is_skip, way_of, zone_bytes, zone_records}
+use Rattle.zone_index.specs.declared.errors.SearchError.{SearchError}
 use Rattle.zone_index.specs.declared.read_at.Asked.{Asked}
 use Rattle.zone_index.specs.declared.records.Decision.{Decision}
 use Rattle.zone_index.specs.declared.zones.Way.{Way}
@@ -75,6 +77,49 @@ all_match has keep [] same all k d below = absurd (omega arith)
 all_match has keep (x ∷ xs) same all zero d below = both_true (keep x) (has x) (same 0 d (omega arith)) (first_counts has x xs (has x) refl all).0
 all_match has keep (x ∷ xs) same all (suc k) d below = all_match has keep xs (λ i e under. same (suc i) e (omega arith)) (first_counts has x xs (has x) refl all).1 k d (omega arith)
 
+-- ---- records that have rows
+
+all_rows : (has : List ℕ → Bool) (xs : List (List ℕ)) → count_by has xs ≡ length xs → AllPass has xs
+all_rows has [] all k d below = absurd (omega arith)
+all_rows has (x ∷ xs) all zero d below = (first_counts has x xs (has x) refl all).0
+all_rows has (x ∷ xs) all (suc k) d below = all_rows has xs (first_counts has x xs (has x) refl all).1 k d (omega arith)
+
+pub same_count : (b : Bool) (n m : ℕ) → b ≡ (n == m) → b ≡ true → n ≡ m
+same_count b n m is same = grind (arith, nat_tests)
+
+-- where a zone has as many rows as records, each record has one
+pub rows_of_zone : (b : Bool) (d : ℕ) (has_row : List ℕ → Bool) (Describes : List ℕ → List (List ℕ) → Type 0) (was : List ℕ) (z : Zone) → b ≡ (z.records == z.rows) → IsZoneOf d has_row Describes was z → HaveRowsIf b has_row (zone_records d was z)
+rows_of_zone true d has_row Describes was z is zone =
+    all_rows has_row (zone_records d was z) (sym zone.rows ∙ sym (same_count true z.records z.rows is refl) ∙ zone.records)
+rows_of_zone false d has_row Describes was z is zone = tt
+
+-- the same of the bytes that were read
+pub rows_of_piece : (b : Bool) (d : ℕ) (has_row : List ℕ → Bool) (Describes : List ℕ → List (List ℕ) → Type 0) (was piece view : List ℕ) (z : Zone) → b ≡ (z.records == z.rows) → IsZoneOf d has_row Describes was z → view ≡ piece → piece ≡ zone_bytes was z → HaveRowsIf b has_row (records_of d view)
+rows_of_piece b d has_row Describes was piece view z is zone viewed read =
+    subst (λ (l : List ℕ). HaveRowsIf b has_row (records_of d l)) (sym (viewed ∙ read)) (rows_of_zone b d has_row Describes was z is zone)
+
+-- the first record of a text, and those behind it
+pub row_here : (b : Bool) (has_row : List ℕ → Bool) (d e : ℕ) (rest line after : List ℕ) → e ≡ d → records_of e rest ≡ line ∷ records_of e after → HaveRowsIf b has_row (records_of d rest) → HasRowIf b (has_row line)
+row_here true has_row d e rest line after by cut h =
+    let own : records_of d rest ≡ line ∷ records_of d after = subst (λ (n : ℕ). records_of n rest ≡ line ∷ records_of n after) by cut in
+    subst (AllPass has_row) own h 0 line (omega arith)
+row_here false has_row d e rest line after by cut h = tt
+
+pub rows_after : (b : Bool) (has_row : List ℕ → Bool) (d e : ℕ) (rest line after : List ℕ) → e ≡ d → records_of e rest ≡ line ∷ records_of e after → HaveRowsIf b has_row (records_of d rest) → HaveRowsIf b has_row (records_of d after)
+rows_after true has_row d e rest line after by cut h =
+    let own : records_of d rest ≡ line ∷ records_of d after = subst (λ (n : ℕ). records_of n rest ≡ line ∷ records_of n after) by cut in
+    λ k x below. subst (AllPass has_row) own h (suc k) x (omega arith)
+rows_after false has_row d e rest line after by cut h = tt
+
+-- so many of the records of a zone match as of the bytes that were read
+pub zone_counted : (b : Bool) (d : ℕ) (has_row keep : List ℕ → Bool) (Describes : List ℕ → List (List ℕ) → Type 0) (known : Option (List ℕ)) (piece view : List ℕ) (z : Zone) (r : Result ℕ SearchError) → b ≡ (z.records == z.rows) → view ≡ piece
+    → ((was : List ℕ) → IsHeld known was → z.first + z.length ≤ length was → piece ≡ zone_bytes was z) → IfOk r (λ n. HaveRowsIf b has_row (records_of d view) → n ≡ count_by keep (records_of d view))
+    → IfOk r (λ n. (was : List ℕ) → IsHeld known was → IsZoneOf d has_row Describes was z → n ≡ count_by keep (zone_records d was z))
+zone_counted b d has_row keep Describes known piece view z (Ok n) is viewed read h = λ was held zone.
+    let here : piece ≡ zone_bytes was z = read was held zone.inside in
+    h (rows_of_piece b d has_row Describes was piece view z is zone viewed here) ∙ ap (λ (l : List ℕ). count_by keep (records_of d l)) (viewed ∙ here)
+zone_counted b d has_row keep Describes known piece view z (Err e) is viewed read h = tt
+
 -- ---- what was asked for
 
 pub not_skipped : (decides : List ℕ → Decision) (z : Zone) (w : Way) (a b : Option (List Asked)) → w ≡ way_of decides z → is_skip w ≡ false → AsksWithin a b z.first (z.first + z.length) → Asks (AsksOfZone decides z) a b
@@ -111,10 +156,11 @@ rows_match has keep (x ∷ xs) same =
 pub found_counted : (d : ℕ) (keep : List ℕ → Bool) (was piece view : List ℕ) (z : Zone) (n : ℕ) → view ≡ piece → piece ≡ zone_bytes was z → n ≡ count_by keep (records_of d view) → n ≡ count_by keep (zone_records d was z)
 found_counted d keep was piece view z n same is e = e ∙ ap (λ (l : List ℕ). count_by keep (records_of d l)) (same ∙ is)
 
-pub hit_more : (d : ℕ) (keep : List ℕ → Bool) (text line rest : List ℕ) (n total now : ℕ) (b : Bool) → records_of d text ≡ line ∷ records_of d rest → b ≡ keep line → n + count_by keep (records_of d text) ≡ total → now ≡ n + cond b 1 0 → now + count_by keep (records_of d rest) ≡ total
-hit_more d keep text line rest n total now b cut is before e =
+pub hit_more : (d e : ℕ) (keep : List ℕ → Bool) (text line rest : List ℕ) (n total now : ℕ) (b : Bool) → e ≡ d → records_of e text ≡ line ∷ records_of e rest → b ≡ keep line → n + count_by keep (records_of d text) ≡ total → now ≡ n + cond b 1 0 → now + count_by keep (records_of d rest) ≡ total
+hit_more d e keep text line rest n total now b by cut is before more =
     let f : List ℕ → ℕ = λ y. cond (keep y) 1 0 in
-    let one : count_by keep (records_of d text) ≡ cond b 1 0 + count_by keep (records_of d rest) = ap (count_by keep) cut ∙ sum_by-cons f line (records_of d rest) ∙ ap (λ (t : Bool). cond t 1 0 + count_by keep (records_of d rest)) (sym is) in
+    let own : records_of d text ≡ line ∷ records_of d rest = subst (λ (k : ℕ). records_of k text ≡ line ∷ records_of k rest) by cut in
+    let one : count_by keep (records_of d text) ≡ cond b 1 0 + count_by keep (records_of d rest) = ap (count_by keep) own ∙ sum_by-cons f line (records_of d rest) ∙ ap (λ (t : Bool). cond t 1 0 + count_by keep (records_of d rest)) (sym is) in
     omega arith
 
 pub all_counted : (keep : List ℕ → Bool) (xs : List (List ℕ)) → AllPass keep xs → length xs ≡ count_by keep xs

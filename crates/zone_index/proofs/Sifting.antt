@@ -1,12 +1,13 @@
 -- The first record that is refused.
-use Rattle.std.proofs.Common.{◌≡◌, ◌≢◌, ◌≤◌, ◌<◌, ◌+◌, ◌-◌, ◌^◌, min, arith, ℕ, suc, List, [], ◌∷◌, ◌++◌, Bool, true, false, if◌then◌else◌, Option, None, Some, refl, sym, ap, ◌∙◌, subst, length, take, drop, get_or, take_all, drop-cons, append_assoc}
-use Rattle.std.specs.Prelude.{option_map}
+use Rattle.std.proofs.Common.{◌≡◌, ◌≢◌, ◌≤◌, ◌<◌, ◌+◌, ◌-◌, ◌^◌, ◌==◌, min, arith, ℕ, suc, List, [], ◌∷◌, ◌++◌, Bool, true, false, if◌then◌else◌, Option, None, Some, refl, sym, ap, ◌∙◌, subst, length, take, drop, get_or, take_all, drop-cons, append_assoc}
+use Rattle.std.specs.Prelude.{IfErr, OnOk, Result, Ok, Err, option_map}
 use Rattle.std.proofs.lemmas.Grind.{take_at_read}
 use Rattle.std.proofs.lemmas.List.{length-append, take-append-drop}
 use Rattle.std.specs.List.{All, concat}
 use Rattle.csv_records.specs.Lemmas.RecordLaws.{concat-records_of}
 use Rattle.csv_records.specs.Records.{records_of}
 use Rattle.zone_index.specs.Errors.{IfRecordRefused, IfRefused, TellsOffset, TellsRecord, before_refused, fault_at}
+use Rattle.zone_index.specs.Records.{HaveRowsIf}
 use Rattle.zone_index.specs.Taking.{IsTaken, StandsBehind}
 use Rattle.zone_index.specs.Zones.{IsHeld, IsIndexOf, IsZoneOf, offset_or, refused_in, zone_bytes, zone_records}
 use Rattle.zone_index.specs.declared.errors.Cause.{Cause}
@@ -16,6 +17,7 @@ use Rattle.zone_index.specs.declared.errors.RecordError.{RecordError}
 use Rattle.zone_index.specs.declared.errors.RecordError.TheVariants as record_faults
 use Rattle.zone_index.specs.declared.errors.Refusal.{Refusal}
 use Rattle.zone_index.specs.declared.zones.Zone.{Zone}
+use Rattle.zone_index.proofs.Answering.{rows_of_piece}
 
 -- ---- numbers that are added
 
@@ -82,14 +84,23 @@ sifted_first R d e text rest line after first place r h by cut is told refused =
     subst (λ (o : Option ℕ). TellsOffset first o r) (sym all) here
 
 -- the same of a fault
-pub first_in_text : (R : List ℕ → Bool) (C : List ℕ → Cause → Type 0) (d e : ℕ) (text rest line after : List ℕ) (first place : ℕ) (f : SearchError) → Sifted R d text rest → e ≡ d → records_of e rest ≡ line ∷ records_of e after → place ≡ min (first + (length text - length rest)) (2 ^ 64 - 1)
-    → IfRefused (TellsRecord C place line) f → IfRefused (λ _. R line ≡ true) f → IfRefused (TellsOffset first (before_refused R (records_of d text))) f
-first_in_text R C d e text rest line after first place (errors.Refused r) h by cut is told refused = sifted_first R d e text rest line after first place r h by cut is told.begins refused
-first_in_text R C d e text rest line after first place errors.Read h by cut is told refused = tt
-first_in_text R C d e text rest line after first place errors.CutShort h by cut is told refused = tt
-first_in_text R C d e text rest line after first place errors.TooFar h by cut is told refused = tt
-first_in_text R C d e text rest line after first place errors.Write h by cut is told refused = tt
-first_in_text R C d e text rest line after first place errors.Memory h by cut is told refused = tt
+pub first_in_text : (P : Type 0) (R : List ℕ → Bool) (C : List ℕ → Cause → Type 0) (d e : ℕ) (text rest line after : List ℕ) (first place : ℕ) (f : SearchError) → (P → Sifted R d text rest) → e ≡ d → records_of e rest ≡ line ∷ records_of e after → place ≡ min (first + (length text - length rest)) (2 ^ 64 - 1)
+    → IfRefused (TellsRecord C place line) f → IfRefused (λ _. R line ≡ true) f → IfRefused (λ r. P → TellsOffset first (before_refused R (records_of d text)) r) f
+first_in_text P R C d e text rest line after first place (errors.Refused r) h by cut is told refused = λ p. sifted_first R d e text rest line after first place r (h p) by cut is told.begins refused
+first_in_text P R C d e text rest line after first place errors.Read h by cut is told refused = tt
+first_in_text P R C d e text rest line after first place errors.CutShort h by cut is told refused = tt
+first_in_text P R C d e text rest line after first place errors.TooFar h by cut is told refused = tt
+first_in_text P R C d e text rest line after first place errors.Write h by cut is told refused = tt
+first_in_text P R C d e text rest line after first place errors.Memory h by cut is told refused = tt
+
+-- what is told where that holds
+pub told_where : (P : Type 0) (Q : Refusal → Type 0) (f : SearchError) → P → IfRefused (λ r. P → Q r) f → IfRefused Q f
+told_where P Q (errors.Refused r) p h = h p
+told_where P Q errors.Read p h = tt
+told_where P Q errors.CutShort p h = tt
+told_where P Q errors.TooFar p h = tt
+told_where P Q errors.Write p h = tt
+told_where P Q errors.Memory p h = tt
 
 -- the same, where the text begins at offset 0
 pub first_in_records : (R : List ℕ → Bool) (C : List ℕ → Cause → Type 0) (d place : ℕ) (text rest line after : List ℕ) (f : RecordError) → Sifted R d text rest → records_of d rest ≡ line ∷ records_of d after → place ≡ min (0 + (length text - length rest)) (2 ^ 64 - 1)
@@ -273,11 +284,11 @@ first_of_zones R reads f zones i z r inside is before reads_it h =
 -- the same of a fault, where the reader has the bytes that it had
 pub first_in_zones : (R : List ℕ → Bool) (reads : Zone → Bool) (d : ℕ) (has_row : List ℕ → Bool) (Describes : List ℕ → List (List ℕ) → Type 0) (old now : Option (List ℕ)) (zones : List Zone) (i : ℕ) (z : Zone) (f : SearchError) → i < length zones → z ≡ get_or zones i z → now ≡ old
     → ((was : List ℕ) → IsHeld old was → All (IsZoneOf d has_row Describes was) zones → refused_in R reads (zone_records d was) (take i zones) ≡ None)
-    → IfRefused (λ r. (was : List ℕ) → IsHeld now was → z.first + z.length ≤ length was → (reads z ≡ true) × TellsOffset z.first (before_refused R (zone_records d was z)) r) f
+    → IfRefused (λ r. (was : List ℕ) → IsHeld now was → IsZoneOf d has_row Describes was z → (reads z ≡ true) × TellsOffset z.first (before_refused R (zone_records d was z)) r) f
     → IfRefused (λ r. (was : List ℕ) (start : ℕ) → IsHeld old was → IsIndexOf d has_row Describes start zones was → TellsOffset 0 (refused_in R reads (zone_records d was) zones) r) f
 first_in_zones R reads d has_row Describes old now zones i z (errors.Refused r) inside is same before h = λ was start held index.
     let own : IsZoneOf d has_row Describes was z = subst (λ (y : Zone). IsZoneOf d has_row Describes was y) (sym is) (index.right i z inside) in
-    let here = h was (subst (λ (known : Option (List ℕ)). IsHeld known was) (sym same) held) own.inside in
+    let here = h was (subst (λ (known : Option (List ℕ)). IsHeld known was) (sym same) held) own in
     first_of_zones R reads (zone_records d was) zones i z r inside is (before was held index.right) here.0 here.1
 first_in_zones R reads d has_row Describes old now zones i z errors.Read inside is same before h = tt
 first_in_zones R reads d has_row Describes old now zones i z errors.CutShort inside is same before h = tt
@@ -290,12 +301,29 @@ first_in_zones R reads d has_row Describes old now zones i z errors.Memory insid
 pub zone_passed : (R : List ℕ → Bool) (d : ℕ) (was piece view : List ℕ) (z : Zone) → view ≡ piece → piece ≡ zone_bytes was z → before_refused R (records_of d view) ≡ None → before_refused R (zone_records d was z) ≡ None
 zone_passed R d was piece view z viewed is none = ap (λ (l : List ℕ). before_refused R (records_of d l)) (sym (viewed ∙ is)) ∙ none
 
-pub zone_first : (R : List ℕ → Bool) (reads : Type 0) (d : ℕ) (known : Option (List ℕ)) (piece view : List ℕ) (z : Zone) (f : SearchError) → view ≡ piece → ((was : List ℕ) → IsHeld known was → z.first + z.length ≤ length was → piece ≡ zone_bytes was z) → reads
-    → IfRefused (TellsOffset z.first (before_refused R (records_of d view))) f
-    → IfRefused (λ r. (was : List ℕ) → IsHeld known was → z.first + z.length ≤ length was → reads × TellsOffset z.first (before_refused R (zone_records d was z)) r) f
-zone_first R reads d known piece view z (errors.Refused r) viewed is y h = λ was held inside. (y, subst (λ (l : List ℕ). TellsOffset z.first (before_refused R (records_of d l)) r) (viewed ∙ is was held inside) h)
-zone_first R reads d known piece view z errors.Read viewed is y h = tt
-zone_first R reads d known piece view z errors.CutShort viewed is y h = tt
-zone_first R reads d known piece view z errors.TooFar viewed is y h = tt
-zone_first R reads d known piece view z errors.Write viewed is y h = tt
-zone_first R reads d known piece view z errors.Memory viewed is y h = tt
+pub zone_first : (R : List ℕ → Bool) (reads : Type 0) (b : Bool) (d : ℕ) (has_row : List ℕ → Bool) (Describes : List ℕ → List (List ℕ) → Type 0) (known : Option (List ℕ)) (piece view : List ℕ) (z : Zone) (f : SearchError) → b ≡ (z.records == z.rows) → view ≡ piece
+    → ((was : List ℕ) → IsHeld known was → z.first + z.length ≤ length was → piece ≡ zone_bytes was z) → reads → IfRefused (λ r. HaveRowsIf b has_row (records_of d view) → TellsOffset z.first (before_refused R (records_of d view)) r) f
+    → IfRefused (λ r. (was : List ℕ) → IsHeld known was → IsZoneOf d has_row Describes was z → reads × TellsOffset z.first (before_refused R (zone_records d was z)) r) f
+zone_first R reads b d has_row Describes known piece view z (errors.Refused r) is viewed read y h = λ was held zone.
+    let here : piece ≡ zone_bytes was z = read was held zone.inside in
+    (y, subst (λ (l : List ℕ). TellsOffset z.first (before_refused R (records_of d l)) r) (viewed ∙ here) (h (rows_of_piece b d has_row Describes was piece view z is zone viewed here)))
+zone_first R reads b d has_row Describes known piece view z errors.Read is viewed read y h = tt
+zone_first R reads b d has_row Describes known piece view z errors.CutShort is viewed read y h = tt
+zone_first R reads b d has_row Describes known piece view z errors.TooFar is viewed read y h = tt
+zone_first R reads b d has_row Describes known piece view z errors.Write is viewed read y h = tt
+zone_first R reads b d has_row Describes known piece view z errors.Memory is viewed read y h = tt
+
+-- the same of what a count of the zone answers
+pub zone_passes : (R : List ℕ → Bool) (reads : Type 0) (b : Bool) (d : ℕ) (has_row : List ℕ → Bool) (Describes : List ℕ → List (List ℕ) → Type 0) (known : Option (List ℕ)) (piece view : List ℕ) (z : Zone) (r : Result ℕ SearchError) → b ≡ (z.records == z.rows) → view ≡ piece
+    → ((was : List ℕ) → IsHeld known was → z.first + z.length ≤ length was → piece ≡ zone_bytes was z) → OnOk r (HaveRowsIf b has_row (records_of d view) → before_refused R (records_of d view) ≡ None)
+    → OnOk r ((was : List ℕ) → IsHeld known was → IsZoneOf d has_row Describes was z → reads → before_refused R (zone_records d was z) ≡ None)
+zone_passes R reads b d has_row Describes known piece view z (Ok n) is viewed read h = λ was held zone y.
+    let here : piece ≡ zone_bytes was z = read was held zone.inside in
+    zone_passed R d was piece view z viewed here (h (rows_of_piece b d has_row Describes was piece view z is zone viewed here))
+zone_passes R reads b d has_row Describes known piece view z (Err f) is viewed read h = tt
+
+pub zone_tells : (R : List ℕ → Bool) (reads : Type 0) (b : Bool) (d : ℕ) (has_row : List ℕ → Bool) (Describes : List ℕ → List (List ℕ) → Type 0) (known : Option (List ℕ)) (piece view : List ℕ) (z : Zone) (r : Result ℕ SearchError) → b ≡ (z.records == z.rows) → view ≡ piece
+    → ((was : List ℕ) → IsHeld known was → z.first + z.length ≤ length was → piece ≡ zone_bytes was z) → reads → IfErr r (IfRefused (λ x. HaveRowsIf b has_row (records_of d view) → TellsOffset z.first (before_refused R (records_of d view)) x))
+    → IfErr r (IfRefused (λ x. (was : List ℕ) → IsHeld known was → IsZoneOf d has_row Describes was z → reads × TellsOffset z.first (before_refused R (zone_records d was z)) x))
+zone_tells R reads b d has_row Describes known piece view z (Ok n) is viewed read y h = tt
+zone_tells R reads b d has_row Describes known piece view z (Err f) is viewed read y h = zone_first R reads b d has_row Describes known piece view z f is viewed read y h

@@ -6,6 +6,7 @@ ghost use Rattle.csv_records.specs.Records.{records_of};
 ghost use Rattle.zone_index.specs.Answers.{AnswersCount};
 ghost use Rattle.zone_index.specs.Asking.{Asks};
 ghost use Rattle.zone_index.specs.Errors.{IfRefused, IsOfRecord, TellsOneOf, TellsOffset, before_refused};
+ghost use Rattle.zone_index.specs.Records.{HaveRowsIf};
 ghost use Rattle.zone_index.specs.Zones.{AsksInPart, IsHeld, IsIndexOf, IsPartOfZone, IsZoneOf, is_undecided};
 ghost use Rattle.zone_index.specs.Zones.{zone_records};
 ghost use Rattle.zone_index.specs.declared.errors.SearchError.TheVariants.{CutShort, TooFar, Write as FailedWrite};
@@ -68,11 +69,13 @@ fn count_zone<R: ReadAt, M: Matcher>(
         → TellsOneOf (M.Refuses matcher.now) zone.now.first
         (zone_records (M.delimiter matcher.now) was zone.now) refusal)) }
     ensures passed { OnOk result ((was : List ℕ) → IsHeld (R.bytes reader.old) was
-        → zone.now.first + zone.now.length ≤ length was → is_undecided (M.decides matcher.now) zone.now ≡ true
+        → IsZoneOf (M.delimiter matcher.now) (M.has_row matcher.now) (M.Describes matcher.now) was zone.now
+        → is_undecided (M.decides matcher.now) zone.now ≡ true
         → before_refused (M.is_refused matcher.now) (zone_records (M.delimiter matcher.now) was zone.now) ≡ None) }
     // The one that is told is the first.
     ensures first { IfErr result (IfRefused (λ refusal. (was : List ℕ) → IsHeld (R.bytes reader.old) was
-        → zone.now.first + zone.now.length ≤ length was → (is_undecided (M.decides matcher.now) zone.now ≡ true)
+        → IsZoneOf (M.delimiter matcher.now) (M.has_row matcher.now) (M.Describes matcher.now) was zone.now
+        → (is_undecided (M.decides matcher.now) zone.now ≡ true)
         × TellsOffset zone.now.first (before_refused (M.is_refused matcher.now)
         (zone_records (M.delimiter matcher.now) was zone.now)) refusal)) }
 {
@@ -82,28 +85,33 @@ fn count_zone<R: ReadAt, M: Matcher>(
         Decision::AllMatch => Ok(zone.rows),
         Decision::Unknown => {
             let piece = read_zone(alloc, zone, reader)?;
-            count_in(alloc, zone.first, &piece, matcher)
+            count_in(alloc, zone.first, &piece, zone.has_only_rows(), matcher)
         }
     }
 }
 
-/// How many records of a text match. It stands at `first` in the file.
+/// How many records of a text match. It stands at `first` in the file. It may be known that each has a row.
 pub(crate) fn count_in<M: Matcher>(
     alloc: Global,
     first: u64,
     text: &[u8],
+    are_rows: bool,
     matcher: &M,
 ) -> Result<u64, SearchError>
-    ensures counted { IfOk result (λ n. n ≡ count_by (M.matches matcher.now)
-        (records_of (M.delimiter matcher.now) text.now)) }
+    ensures counted { IfOk result (λ n. HaveRowsIf are_rows (M.has_row matcher.now)
+        (records_of (M.delimiter matcher.now) text.now)
+        → n ≡ count_by (M.matches matcher.now) (records_of (M.delimiter matcher.now) text.now)) }
     ensures few { IfOk result (λ n. n ≤ length text.now) }
     ensures why { IfErr result IsOfRecord }
     ensures refused { IfErr result (IfRefused (TellsOneOf (M.Refuses matcher.now) first
         (records_of (M.delimiter matcher.now) text.now))) }
-    ensures passed { OnOk result (before_refused (M.is_refused matcher.now)
-        (records_of (M.delimiter matcher.now) text.now) ≡ None) }
-    ensures first { IfErr result (IfRefused (TellsOffset first (before_refused (M.is_refused matcher.now)
-        (records_of (M.delimiter matcher.now) text.now)))) }
+    ensures passed { OnOk result (HaveRowsIf are_rows (M.has_row matcher.now)
+        (records_of (M.delimiter matcher.now) text.now)
+        → before_refused (M.is_refused matcher.now) (records_of (M.delimiter matcher.now) text.now) ≡ None) }
+    ensures first { IfErr result (IfRefused (λ refusal. HaveRowsIf are_rows (M.has_row matcher.now)
+        (records_of (M.delimiter matcher.now) text.now)
+        → TellsOffset first (before_refused (M.is_refused matcher.now)
+        (records_of (M.delimiter matcher.now) text.now)) refusal)) }
 {
     let mut hits = 0u64;
     let mut scratch = matcher.scratch(alloc);
@@ -111,7 +119,7 @@ pub(crate) fn count_in<M: Matcher>(
     while !rest.is_empty() {
         let place = first.saturating_add((text.len() - rest.len()) as u64);
         let (line, after) = cut_record(matcher.delimiter_byte(), rest);
-        let hit = is_hit(alloc, place, line, matcher, &mut scratch)?;
+        let hit = is_hit(alloc, place, line, are_rows, matcher, &mut scratch)?;
         hits = one_more(hits, hit);
         rest = after;
     }

@@ -117,6 +117,21 @@ pub trait Matcher: Records {
         ensures refused { IfErr result (IfRecordRefused (TellsRecord (Self.Refuses self.now) 0 line.now)) }
         ensures right { IfErr result (IfRecordRefused (λ _. Self.is_refused self.now line.now ≡ true)) };
 
+    /// Whether a record matches that has a row, as an index says of the records of a zone: the test may
+    /// look at no more of it than it needs. `Refused`, with the offset 0, only if it is refused, which a record
+    /// with a row is not.
+    fn is_match_of_row(
+        &self,
+        alloc: Global,
+        scratch: &mut Self::Scratch,
+        line: &[u8],
+    ) -> Result<bool, RecordError>
+        ensures hit { IfOk result (λ hit. Self.has_row self.now line.now ≡ true → hit ≡ matches self.now line.now) }
+        ensures passed { OnOk result (Self.has_row self.now line.now ≡ true
+            → Self.is_refused self.now line.now ≡ false) }
+        ensures refused { IfErr result (IfRecordRefused (TellsRecord (Self.Refuses self.now) 0 line.now)) }
+        ensures right { IfErr result (IfRecordRefused (λ _. Self.is_refused self.now line.now ≡ true)) };
+
     /// What statistics say of the rows that they are of.
     fn decide(&self, alloc: Global, statistics: &[u8]) -> Result<Decision, AllocError>
         ensures value { IfOk result (λ d. d ≡ decides self.now statistics.now) }

@@ -6,15 +6,16 @@ ghost use Rattle.std.specs.Io.KnownBytes.{Appends};
 ghost use Rattle.csv_records.specs.Records.{records_of};
 ghost use Rattle.zone_index.specs.Answers.{AnswersFind};
 ghost use Rattle.zone_index.specs.Asking.{Asks, AsksWithin};
-ghost use Rattle.zone_index.specs.Errors.{IfRefused, IsOfReading, IsOfRecord, TellsOneOf, TellsOffset, TellsRecord};
-ghost use Rattle.zone_index.specs.Errors.{before_refused};
+ghost use Rattle.zone_index.specs.Errors.{IfRecordRefused, IfRefused, IsOfReading, IsOfRecord, TellsOneOf, TellsOffset};
+ghost use Rattle.zone_index.specs.Errors.{TellsRecord, before_refused};
+ghost use Rattle.zone_index.specs.Records.{HasRowIf, HaveRowsIf};
 ghost use Rattle.zone_index.specs.Sinks.{WritesFirst, told, written_of};
 ghost use Rattle.zone_index.specs.Zones.{AsksOfZone, IsHeld, IsIndexOf, IsOfZone, IsWayOf, IsZoneOf, is_copy};
 ghost use Rattle.zone_index.specs.Zones.{is_search, is_searched, is_skip, way_of, zone_bytes, zone_records};
 ghost use Rattle.zone_index.specs.declared.errors.SearchError.TheVariants.{CutShort, TooFar, Write as FailedWrite};
 
 use crate::counting::one_more;
-use crate::errors::SearchError;
+use crate::errors::{RecordError, SearchError};
 use crate::read_at::{ReadAt, fill_from};
 use crate::records::{Decision, Matcher};
 use crate::sinks::Sink;
@@ -123,11 +124,13 @@ fn answer_zone<R: ReadAt, M: Matcher, S: Sink>(
         → TellsOneOf (M.Refuses matcher.now) zone.now.first
         (zone_records (M.delimiter matcher.now) was zone.now) refusal)) }
     ensures passed { OnOk result ((was : List ℕ) → IsHeld (R.bytes reader.old) was
-        → zone.now.first + zone.now.length ≤ length was → is_searched (M.decides matcher.now) zone.now ≡ true
+        → IsZoneOf (M.delimiter matcher.now) (M.has_row matcher.now) (M.Describes matcher.now) was zone.now
+        → is_searched (M.decides matcher.now) zone.now ≡ true
         → before_refused (M.is_refused matcher.now) (zone_records (M.delimiter matcher.now) was zone.now) ≡ None) }
     // The one that is told is the first.
     ensures first { IfErr result (IfRefused (λ refusal. (was : List ℕ) → IsHeld (R.bytes reader.old) was
-        → zone.now.first + zone.now.length ≤ length was → (is_searched (M.decides matcher.now) zone.now ≡ true)
+        → IsZoneOf (M.delimiter matcher.now) (M.has_row matcher.now) (M.Describes matcher.now) was zone.now
+        → (is_searched (M.decides matcher.now) zone.now ≡ true)
         × TellsOffset zone.now.first (before_refused (M.is_refused matcher.now)
         (zone_records (M.delimiter matcher.now) was zone.now)) refusal)) }
 {
@@ -146,7 +149,7 @@ fn answer_zone<R: ReadAt, M: Matcher, S: Sink>(
                 place: zone.first,
                 number,
             };
-            let (hits, _) = give_hits(alloc, start, &piece, matcher, sink)?;
+            let (hits, _) = give_hits(alloc, start, &piece, zone.has_only_rows(), matcher, sink)?;
             sink.finish()?;
             Ok((way, hits))
         }
@@ -163,7 +166,7 @@ fn way_of_zone<M: Matcher>(alloc: Global, zone: &Zone, matcher: &M) -> Result<Wa
     match decision {
         Decision::NoneMatch => Ok(Way::Skip),
         Decision::AllMatch => {
-            if zone.records == zone.rows {
+            if zone.has_only_rows() {
                 Ok(Way::Copy)
             } else {
                 Ok(Way::Search)
@@ -217,29 +220,36 @@ fn give_whole<S: Sink>(
 }
 
 /// Gives a sink the records of a text that match. Says how many they are, and the number of the
-/// record after the text, the first of which stands at `start`.
+/// record after the text, the first of which stands at `start`. It may be known that each has a row.
 pub(crate) fn give_hits<M: Matcher, S: Sink>(
     alloc: Global,
     start: Position,
     text: &[u8],
+    are_rows: bool,
     matcher: &M,
     sink: &mut S,
 ) -> Result<(u64, u64), SearchError>
-    ensures taken { OnOk result (S.taken sink.new ≡ written_of S.written_as (M.matches matcher.now)
+    ensures taken { OnOk result (HaveRowsIf are_rows (M.has_row matcher.now)
+        (records_of (M.delimiter matcher.now) text.now)
+        → S.taken sink.new ≡ written_of S.written_as (M.matches matcher.now)
         start.number (records_of (M.delimiter matcher.now) text.now)) }
     ensures kept { S.contents sink.new ≡ S.contents sink.old }
-    ensures counted { IfOk result (λ given. given.0 ≡ count_by (M.matches matcher.now)
-        (records_of (M.delimiter matcher.now) text.now)) }
+    ensures counted { IfOk result (λ given. HaveRowsIf are_rows (M.has_row matcher.now)
+        (records_of (M.delimiter matcher.now) text.now)
+        → given.0 ≡ count_by (M.matches matcher.now) (records_of (M.delimiter matcher.now) text.now)) }
     ensures next { IfOk result (λ given. given.1 ≡
         told (start.number + length (records_of (M.delimiter matcher.now) text.now))) }
     ensures few { IfOk result (λ given. given.0 ≤ length text.now) }
     ensures why { IfErr result IsOfRecord }
     ensures refused { IfErr result (IfRefused (TellsOneOf (M.Refuses matcher.now) start.place
         (records_of (M.delimiter matcher.now) text.now))) }
-    ensures passed { OnOk result (before_refused (M.is_refused matcher.now)
-        (records_of (M.delimiter matcher.now) text.now) ≡ None) }
-    ensures first { IfErr result (IfRefused (TellsOffset start.place (before_refused (M.is_refused matcher.now)
-        (records_of (M.delimiter matcher.now) text.now)))) }
+    ensures passed { OnOk result (HaveRowsIf are_rows (M.has_row matcher.now)
+        (records_of (M.delimiter matcher.now) text.now)
+        → before_refused (M.is_refused matcher.now) (records_of (M.delimiter matcher.now) text.now) ≡ None) }
+    ensures first { IfErr result (IfRefused (λ refusal. HaveRowsIf are_rows (M.has_row matcher.now)
+        (records_of (M.delimiter matcher.now) text.now)
+        → TellsOffset start.place (before_refused (M.is_refused matcher.now)
+        (records_of (M.delimiter matcher.now) text.now)) refusal)) }
 {
     sink.begin();
     let mut number = start.number;
@@ -249,7 +259,7 @@ pub(crate) fn give_hits<M: Matcher, S: Sink>(
     while !rest.is_empty() {
         let place = start.place.saturating_add((text.len() - rest.len()) as u64);
         let (line, after) = cut_record(matcher.delimiter_byte(), rest);
-        let hit = is_hit(alloc, place, line, matcher, &mut scratch)?;
+        let hit = is_hit(alloc, place, line, are_rows, matcher, &mut scratch)?;
         give_record(hit, number, line, sink)?;
         hits = one_more(hits, hit);
         number = number.saturating_add(1);
@@ -276,22 +286,47 @@ fn give_record<S: Sink>(
     }
 }
 
-/// Whether a record matches, which begins at this offset.
+/// Whether a record matches, which begins at this offset. It may be known that it has a row.
 pub(crate) fn is_hit<M: Matcher>(
     alloc: Global,
     place: u64,
     line: &[u8],
+    is_row: bool,
     matcher: &M,
     scratch: &mut M::Scratch,
 ) -> Result<bool, SearchError>
-    ensures hit { IfOk result (λ hit. hit ≡ M.matches matcher.now line.now) }
+    ensures hit { IfOk result (λ hit. HasRowIf is_row (M.has_row matcher.now line.now)
+        → hit ≡ M.matches matcher.now line.now) }
     ensures why { IfErr result IsOfRecord }
-    ensures passed { OnOk result (M.is_refused matcher.now line.now ≡ false) }
+    ensures passed { OnOk result (HasRowIf is_row (M.has_row matcher.now line.now)
+        → M.is_refused matcher.now line.now ≡ false) }
     ensures refused { IfErr result (IfRefused (TellsRecord (M.Refuses matcher.now) place line.now)) }
     ensures right { IfErr result (IfRefused (λ _. M.is_refused matcher.now line.now ≡ true)) }
 {
-    match matcher.is_match(alloc, scratch, line) {
+    match is_match(alloc, line, is_row, matcher, scratch) {
         Ok(hit) => Ok(hit),
         Err(fault) => Err(fault.at(place)),
+    }
+}
+
+/// Whether a record matches, of which it may be known that it has a row.
+fn is_match<M: Matcher>(
+    alloc: Global,
+    line: &[u8],
+    is_row: bool,
+    matcher: &M,
+    scratch: &mut M::Scratch,
+) -> Result<bool, RecordError>
+    ensures hit { IfOk result (λ hit. HasRowIf is_row (M.has_row matcher.now line.now)
+        → hit ≡ M.matches matcher.now line.now) }
+    ensures passed { OnOk result (HasRowIf is_row (M.has_row matcher.now line.now)
+        → M.is_refused matcher.now line.now ≡ false) }
+    ensures refused { IfErr result (IfRecordRefused (TellsRecord (M.Refuses matcher.now) 0 line.now)) }
+    ensures right { IfErr result (IfRecordRefused (λ _. M.is_refused matcher.now line.now ≡ true)) }
+{
+    if is_row {
+        matcher.is_match_of_row(alloc, scratch, line)
+    } else {
+        matcher.is_match(alloc, scratch, line)
     }
 }

@@ -82,7 +82,7 @@ pub fn find_rest<B: BufRead, M: Matcher, S: Sink>(
             place: start.place.saturating_add(passed),
             number,
         };
-        let (hits, next) = give_hits(alloc, position, &text, matcher, sink)?;
+        let (hits, next) = give_hits(alloc, position, &text, false, matcher, sink)?;
         match passed.checked_add(text.len() as u64) {
             Some(sum) => passed = sum,
             None => return Err(SearchError::TooFar),
@@ -132,7 +132,7 @@ pub fn count_rest<B: BufRead, M: Matcher>(
         if text.is_empty() {
             return Ok(total);
         }
-        let hits = count_in(alloc, start.saturating_add(passed), &text, matcher)?;
+        let hits = count_in(alloc, start.saturating_add(passed), &text, false, matcher)?;
         match passed.checked_add(text.len() as u64) {
             Some(sum) => passed = sum,
             None => return Err(SearchError::TooFar),

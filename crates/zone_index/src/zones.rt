@@ -1,6 +1,6 @@
 //! Zones of records, and where records stand.
 
-ghost use Rattle.std.specs.Prelude.{◌≡◌, ◌+◌, sum_by};
+ghost use Rattle.std.specs.Prelude.{◌≡◌, ◌==◌, ◌+◌, sum_by};
 ghost use Rattle.zone_index.specs.Sinks.{told};
 
 /// A zone: records that stand one after another, and what is known of them.
@@ -16,6 +16,15 @@ pub struct Zone {
     pub rows: u64,
     /// Statistics of the rows, in bytes.
     pub statistics: Vec<u8>,
+}
+
+impl Zone {
+    /// Whether each of its records has a row.
+    pub fn has_only_rows(&self) -> bool
+        ensures { result ≡ (self.now.records == self.now.rows) }
+    {
+        self.records == self.rows
+    }
 }
 
 /// What a search does with a zone.

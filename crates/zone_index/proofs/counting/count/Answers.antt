@@ -21,7 +21,7 @@ loop-zone-preserved g c =
       λ was right. few_more zones i c.loop-zone.total c.in_ok-hits.hits c.in-Some.sum item (search rules) c.zone-item.is (c.loop-zone.invariant.3 was right)
           (c.in_ok-hits.ensures.few was (at_item (IsZoneOf (g.M.Records.delimiter c.args.matcher.now) (g.M.Records.has_row c.args.matcher.now) (g.M.Records.Describes c.args.matcher.now) was) zones i item (search rules) c.zone-item.is right)) (search rules),
       λ was held right. zone_sifted (g.M.Records.is_refused c.args.matcher.now) (is_undecided (g.M.Matcher.decides c.args.matcher.now)) (zone_records (g.M.Records.delimiter c.args.matcher.now) was) zones i item (search rules) c.zone-item.is (c.loop-zone.invariant.4 was held right)
-          (c.in_ok-hits.ensures.passed was (subst (λ (known : Option (List ℕ)). IsHeld known was) (sym here) held) (at_item (IsZoneOf (g.M.Records.delimiter c.args.matcher.now) (g.M.Records.has_row c.args.matcher.now) (g.M.Records.Describes c.args.matcher.now) was) zones i item (search rules) c.zone-item.is right).inside),
+          (c.in_ok-hits.ensures.passed was (subst (λ (known : Option (List ℕ)). IsHeld known was) (sym here) held) (at_item (IsZoneOf (g.M.Records.delimiter c.args.matcher.now) (g.M.Records.has_row c.args.matcher.now) (g.M.Records.Describes c.args.matcher.now) was) zones i item (search rules) c.zone-item.is right)),
     )
 
 pub returns-in_err-hits-clause-asks : goal.returns-in_err-hits-clause-asks

@@ -33,7 +33,7 @@ loop-zone-preserved g c =
       few = omega (arith, c.add.ensures.sum, before.few);
       asks = asks_zone decides zones i item _ (g.R.ReadAt.asked c.loop-zone.reader) _ (search rules) c.zone-item.is before.asks c.in_ok-way.ensures.asks;
       sifted = λ was held right. zone_sifted (g.M.Records.is_refused c.args.matcher.now) (is_searched decides) (zone_records d was) zones i item (search rules) c.zone-item.is (before.sifted was held right)
-          (c.in_ok-way.ensures.passed was (subst (λ (known : Option (List ℕ)). IsHeld known was) (sym before.same) held) (at_item (IsZoneOf d has_row Describes was) zones i item (search rules) c.zone-item.is right).inside);
+          (c.in_ok-way.ensures.passed was (subst (λ (known : Option (List ℕ)). IsHeld known was) (sym before.same) held) (at_item (IsZoneOf d has_row Describes was) zones i item (search rules) c.zone-item.is right));
       found = λ was held right. capped_more d keep was zones i c.loop-zone.tally.found c.in_ok-way.found c.add.new.self.found item (search rules) c.zone-item.is (before.found was held right)
           (c.in_ok-way.ensures.found was (subst (λ (known : Option (List ℕ)). IsHeld known was) (sym before.same) held) (at_item (IsZoneOf d has_row Describes was) zones i item (search rules) c.zone-item.is right)) c.add.ensures.found;
     }

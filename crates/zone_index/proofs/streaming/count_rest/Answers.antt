@@ -3,9 +3,11 @@ use Rattle.std.proofs.Common.{rules, arith, ◌≡◌, []}
 use Rattle.std.proofs.lemmas.Grind.{common_steps}
 use Rattle.std.proofs.lemmas.List.{nil_from_length}
 use Rattle.std.proofs.lemmas.Result.{err_from_is_err_and}
+use Rattle.csv_records.specs.Records.{records_of}
+use Rattle.zone_index.specs.Errors.{TellsOffset, before_refused}
 use Rattle.zone_index.proofs.Refusing.{passed_far, passed_more, passed_none, refused_in_piece}
 use Rattle.zone_index.proofs.Rests.{counted_all, counted_more, counted_none}
-use Rattle.zone_index.proofs.Sifting.{at_end, first_in_piece, judged_more, judged_none, rest_all, rest_more, rest_none, stands_behind}
+use Rattle.zone_index.proofs.Sifting.{at_end, first_in_piece, judged_more, judged_none, rest_all, rest_more, rest_none, stands_behind, told_where}
 use Rattle.zone_index.proofs.streaming.count_rest.Goals as goal
 
 pub loop-text-init : goal.loop-text-init
@@ -32,16 +34,16 @@ loop-text-preserved g c = record {
   counted = λ bytes is.
       let s = c.loop-text.invariant.counted bytes is in
       counted_more (g.M.Records.delimiter c.args.matcher.now) c.delimiter_byte-delimiter.result.byte (g.M.Matcher.matches c.args.matcher.now) bytes c.take_records.new.text.items c.deref.result.now _ (g.B.Read.remaining c.take_records.new.reader) c.loop-text.total c.in_ok-hits.hits _ s
-      c.delimiter_byte-delimiter.ensures (c.in_ok-take_records.ensures.taken s.rest s.is) c.deref.ensures.value c.in_ok-hits.ensures.counted (search rules);
+      c.delimiter_byte-delimiter.ensures (c.in_ok-take_records.ensures.taken s.rest s.is) c.deref.ensures.value (c.in_ok-hits.ensures.counted tt) (search rules);
   behind = λ bytes is.
       let s = c.loop-text.invariant.behind bytes is in
       passed_more (g.M.Records.delimiter c.args.matcher.now) c.delimiter_byte-delimiter.result.byte bytes c.take_records.new.text.items _ (g.B.Read.remaining c.take_records.new.reader) c.loop-text.passed _ s c.delimiter_byte-delimiter.ensures (c.in_ok-take_records.ensures.taken s.rest s.is) (search rules);
   sifted = λ bytes is.
       let s = c.loop-text.invariant.sifted bytes is in
-      rest_more (g.M.Records.is_refused c.args.matcher.now) (g.M.Records.delimiter c.args.matcher.now) c.delimiter_byte-delimiter.result.byte bytes c.take_records.new.text.items c.deref.result.now _ (g.B.Read.remaining c.take_records.new.reader) c.loop-text.passed _ s c.delimiter_byte-delimiter.ensures (c.in_ok-take_records.ensures.taken s.rest s.is) (search rules) c.deref.ensures.value c.in_ok-hits.ensures.passed;
+      rest_more (g.M.Records.is_refused c.args.matcher.now) (g.M.Records.delimiter c.args.matcher.now) c.delimiter_byte-delimiter.result.byte bytes c.take_records.new.text.items c.deref.result.now _ (g.B.Read.remaining c.take_records.new.reader) c.loop-text.passed _ s c.delimiter_byte-delimiter.ensures (c.in_ok-take_records.ensures.taken s.rest s.is) (search rules) c.deref.ensures.value (c.in_ok-hits.ensures.passed tt);
   judged = λ bytes is.
       let s = c.loop-text.invariant.judged bytes is in
-      judged_more (g.M.Records.is_refused c.args.matcher.now) (g.M.Records.delimiter c.args.matcher.now) c.delimiter_byte-delimiter.result.byte bytes c.take_records.new.text.items c.deref.result.now _ (g.B.Read.remaining c.take_records.new.reader) s c.delimiter_byte-delimiter.ensures (c.in_ok-take_records.ensures.taken s.rest s.is) c.deref.ensures.value c.in_ok-hits.ensures.passed;
+      judged_more (g.M.Records.is_refused c.args.matcher.now) (g.M.Records.delimiter c.args.matcher.now) c.delimiter_byte-delimiter.result.byte bytes c.take_records.new.text.items c.deref.result.now _ (g.B.Read.remaining c.take_records.new.reader) s c.delimiter_byte-delimiter.ensures (c.in_ok-take_records.ensures.taken s.rest s.is) c.deref.ensures.value (c.in_ok-hits.ensures.passed tt);
   few = omega (arith, c.loop-text.invariant.few, c.in_ok-hits.ensures.few, c.in-Some.ensures, c.deref.ensures.len, c.len.ensures);
 }
 
@@ -55,7 +57,7 @@ pub returns-in_err-hits-clause-first : goal.returns-in_err-hits-clause-first
 returns-in_err-hits-clause-first g c =
     let p = err_from_is_err_and c.from_residual-in_err-hits.result c.from_residual-in_err-hits.ensures.1 in
     rw (p.1, p.2) (first_in_piece (g.M.Records.is_refused c.args.matcher.now) (g.M.Records.delimiter c.args.matcher.now) c.delimiter_byte-delimiter.result.byte c.take_records.new.text.items c.deref.result.now _ _ (g.B.Read.remaining c.take_records.new.reader) c.args.start c.loop-text.passed _ c.in_err-hits.field-0.0
-    c.loop-text.invariant.sifted c.saturating_add.ensures c.delimiter_byte-delimiter.ensures c.in_ok-take_records.ensures.taken c.deref.ensures.value c.in_err-hits.ensures.first)
+    c.loop-text.invariant.sifted c.saturating_add.ensures c.delimiter_byte-delimiter.ensures c.in_ok-take_records.ensures.taken c.deref.ensures.value (told_where (Unit {0}) (TellsOffset c.saturating_add.result (before_refused (g.M.Records.is_refused c.args.matcher.now) (records_of (g.M.Records.delimiter c.args.matcher.now) c.deref.result.now))) c.in_err-hits.field-0.0 tt c.in_err-hits.ensures.first))
 
 pub returns-then-is_empty-clause-passed : goal.returns-then-is_empty-clause-passed
 returns-then-is_empty-clause-passed g c =
@@ -71,4 +73,4 @@ pub returns-in_err-hits-clause-near : goal.returns-in_err-hits-clause-near
 returns-in_err-hits-clause-near g c =
     let p = err_from_is_err_and c.from_residual-in_err-hits.result c.from_residual-in_err-hits.ensures.1 in
     rw (p.1, p.2) (stands_behind (g.M.Records.is_refused c.args.matcher.now) (g.M.Records.delimiter c.args.matcher.now) c.delimiter_byte-delimiter.result.byte c.args.size c.take_records.new.text.items c.deref.result.now _ _ (g.B.Read.remaining c.take_records.new.reader) _ c.in_err-hits.field-0.0
-    c.loop-text.invariant.judged c.delimiter_byte-delimiter.ensures c.in_ok-take_records.ensures.taken c.in_ok-take_records.ensures.many c.deref.ensures.value c.in_err-hits.ensures.first)
+    c.loop-text.invariant.judged c.delimiter_byte-delimiter.ensures c.in_ok-take_records.ensures.taken c.in_ok-take_records.ensures.many c.deref.ensures.value (told_where (Unit {0}) (TellsOffset c.saturating_add.result (before_refused (g.M.Records.is_refused c.args.matcher.now) (records_of (g.M.Records.delimiter c.args.matcher.now) c.deref.result.now))) c.in_err-hits.field-0.0 tt c.in_err-hits.ensures.first))

@@ -4,10 +4,11 @@ use Rattle.std.proofs.lemmas.Grind.{common_steps}
 use Rattle.std.proofs.lemmas.List.{nil_from_length}
 use Rattle.std.proofs.lemmas.Result.{err_from_is_err_and}
 use Rattle.csv_records.specs.Records.{records_of}
+use Rattle.zone_index.specs.Errors.{TellsOffset, before_refused}
 use Rattle.zone_index.proofs.Refusing.{passed_far, passed_more, passed_none, refused_in_piece}
 use Rattle.zone_index.proofs.Rests.{all_counted, all_written, first_written, keeps-same, searched_first, searched_more, searched_none, searched_then}
 use Rattle.zone_index.proofs.Sinking.{kept_written}
-use Rattle.zone_index.proofs.Sifting.{at_end, first_in_piece, judged_more, judged_none, rest_all, rest_more, rest_none, stands_behind}
+use Rattle.zone_index.proofs.Sifting.{at_end, first_in_piece, judged_more, judged_none, rest_all, rest_more, rest_none, stands_behind, told_where}
 use Rattle.zone_index.proofs.streaming.find_rest.Goals as goal
 
 pub loop-text-init : goal.loop-text-init
@@ -24,16 +25,16 @@ loop-text-preserved g c = record {
   searched = λ bytes is.
       let s = c.loop-text.invariant.searched bytes is in
       searched_more g.S.Sink.written_as c.args.start.number (g.M.Records.delimiter c.args.matcher.now) c.delimiter_byte-delimiter.result.byte (g.M.Matcher.matches c.args.matcher.now) bytes c.take_records.new.text.items c.deref.result.now (g.S.Sink.taken c.give_hits.new.sink) _ (g.B.Read.remaining c.take_records.new.reader) _ _ (g.S.Sink.contents c.give_hits.new.sink) (g.S.Sink.contents c.finish.new.self) c.loop-text.found c.in_ok-hits.hits _ c.loop-text.number _ s
-      c.delimiter_byte-delimiter.ensures (c.in_ok-take_records.ensures.taken s.rest s.is) c.deref.ensures.value c.in_ok-hits.ensures.taken c.give_hits.ensures.kept c.in_ok-finish.ensures.written c.in_ok-hits.ensures.counted (search rules) (search rules);
+      c.delimiter_byte-delimiter.ensures (c.in_ok-take_records.ensures.taken s.rest s.is) c.deref.ensures.value (c.in_ok-hits.ensures.taken tt) c.give_hits.ensures.kept c.in_ok-finish.ensures.written (c.in_ok-hits.ensures.counted tt) (search rules) (search rules);
   behind = λ bytes is.
       let s = c.loop-text.invariant.behind bytes is in
       passed_more (g.M.Records.delimiter c.args.matcher.now) c.delimiter_byte-delimiter.result.byte bytes c.take_records.new.text.items _ (g.B.Read.remaining c.take_records.new.reader) c.loop-text.passed _ s c.delimiter_byte-delimiter.ensures (c.in_ok-take_records.ensures.taken s.rest s.is) (search rules);
   sifted = λ bytes is.
       let s = c.loop-text.invariant.sifted bytes is in
-      rest_more (g.M.Records.is_refused c.args.matcher.now) (g.M.Records.delimiter c.args.matcher.now) c.delimiter_byte-delimiter.result.byte bytes c.take_records.new.text.items c.deref.result.now _ (g.B.Read.remaining c.take_records.new.reader) c.loop-text.passed _ s c.delimiter_byte-delimiter.ensures (c.in_ok-take_records.ensures.taken s.rest s.is) (search rules) c.deref.ensures.value c.in_ok-hits.ensures.passed;
+      rest_more (g.M.Records.is_refused c.args.matcher.now) (g.M.Records.delimiter c.args.matcher.now) c.delimiter_byte-delimiter.result.byte bytes c.take_records.new.text.items c.deref.result.now _ (g.B.Read.remaining c.take_records.new.reader) c.loop-text.passed _ s c.delimiter_byte-delimiter.ensures (c.in_ok-take_records.ensures.taken s.rest s.is) (search rules) c.deref.ensures.value (c.in_ok-hits.ensures.passed tt);
   judged = λ bytes is.
       let s = c.loop-text.invariant.judged bytes is in
-      judged_more (g.M.Records.is_refused c.args.matcher.now) (g.M.Records.delimiter c.args.matcher.now) c.delimiter_byte-delimiter.result.byte bytes c.take_records.new.text.items c.deref.result.now _ (g.B.Read.remaining c.take_records.new.reader) s c.delimiter_byte-delimiter.ensures (c.in_ok-take_records.ensures.taken s.rest s.is) c.deref.ensures.value c.in_ok-hits.ensures.passed;
+      judged_more (g.M.Records.is_refused c.args.matcher.now) (g.M.Records.delimiter c.args.matcher.now) c.delimiter_byte-delimiter.result.byte bytes c.take_records.new.text.items c.deref.result.now _ (g.B.Read.remaining c.take_records.new.reader) s c.delimiter_byte-delimiter.ensures (c.in_ok-take_records.ensures.taken s.rest s.is) c.deref.ensures.value (c.in_ok-hits.ensures.passed tt);
   few = omega (arith, c.loop-text.invariant.few, c.in_ok-hits.ensures.few, c.in-Some.ensures, c.deref.ensures.len, c.len.ensures);
 }
 
@@ -80,7 +81,7 @@ pub returns-in_err-hits-clause-first : goal.returns-in_err-hits-clause-first
 returns-in_err-hits-clause-first g c =
     let p = err_from_is_err_and c.from_residual-in_err-hits.result c.from_residual-in_err-hits.ensures.1 in
     rw (p.1, p.2) (first_in_piece (g.M.Records.is_refused c.args.matcher.now) (g.M.Records.delimiter c.args.matcher.now) c.delimiter_byte-delimiter.result.byte c.take_records.new.text.items c.deref.result.now _ _ (g.B.Read.remaining c.take_records.new.reader) c.args.start.place c.loop-text.passed _ c.in_err-hits.field-0.0
-    c.loop-text.invariant.sifted c.saturating_add.ensures c.delimiter_byte-delimiter.ensures c.in_ok-take_records.ensures.taken c.deref.ensures.value c.in_err-hits.ensures.first)
+    c.loop-text.invariant.sifted c.saturating_add.ensures c.delimiter_byte-delimiter.ensures c.in_ok-take_records.ensures.taken c.deref.ensures.value (told_where (Unit {0}) (TellsOffset c.saturating_add.result (before_refused (g.M.Records.is_refused c.args.matcher.now) (records_of (g.M.Records.delimiter c.args.matcher.now) c.deref.result.now))) c.in_err-hits.field-0.0 tt c.in_err-hits.ensures.first))
 
 pub returns-then-is_empty-clause-passed : goal.returns-then-is_empty-clause-passed
 returns-then-is_empty-clause-passed g c =
@@ -96,7 +97,7 @@ pub returns-in_err-hits-clause-near : goal.returns-in_err-hits-clause-near
 returns-in_err-hits-clause-near g c =
     let p = err_from_is_err_and c.from_residual-in_err-hits.result c.from_residual-in_err-hits.ensures.1 in
     rw (p.1, p.2) (stands_behind (g.M.Records.is_refused c.args.matcher.now) (g.M.Records.delimiter c.args.matcher.now) c.delimiter_byte-delimiter.result.byte c.args.size c.take_records.new.text.items c.deref.result.now _ _ (g.B.Read.remaining c.take_records.new.reader) _ c.in_err-hits.field-0.0
-    c.loop-text.invariant.judged c.delimiter_byte-delimiter.ensures c.in_ok-take_records.ensures.taken c.in_ok-take_records.ensures.many c.deref.ensures.value c.in_err-hits.ensures.first)
+    c.loop-text.invariant.judged c.delimiter_byte-delimiter.ensures c.in_ok-take_records.ensures.taken c.in_ok-take_records.ensures.many c.deref.ensures.value (told_where (Unit {0}) (TellsOffset c.saturating_add.result (before_refused (g.M.Records.is_refused c.args.matcher.now) (records_of (g.M.Records.delimiter c.args.matcher.now) c.deref.result.now))) c.in_err-hits.field-0.0 tt c.in_err-hits.ensures.first))
 
 pub returns-in_err-take_records-clause-begun : goal.returns-in_err-take_records-clause-begun
 returns-in_err-take_records-clause-begun g c =
@@ -122,4 +123,4 @@ returns-in_err-finish-clause-begun g c =
     rw p.1 (λ bytes is.
     let s = c.loop-text.invariant.searched bytes is in
     searched_then g.S.Sink.written_as c.args.start.number (g.M.Records.delimiter c.args.matcher.now) c.delimiter_byte-delimiter.result.byte (g.M.Matcher.matches c.args.matcher.now) bytes c.take_records.new.text.items c.deref.result.now (g.S.Sink.taken c.give_hits.new.sink) _ (g.B.Read.remaining c.take_records.new.reader) _ _ (g.S.Sink.contents c.give_hits.new.sink) (g.S.Sink.contents c.finish.new.self) c.loop-text.found c.loop-text.number s
-    c.delimiter_byte-delimiter.ensures (c.in_ok-take_records.ensures.taken s.rest s.is) c.deref.ensures.value c.in_ok-hits.ensures.taken c.give_hits.ensures.kept c.in_err-finish.ensures.begun)
+    c.delimiter_byte-delimiter.ensures (c.in_ok-take_records.ensures.taken s.rest s.is) c.deref.ensures.value (c.in_ok-hits.ensures.taken tt) c.give_hits.ensures.kept c.in_err-finish.ensures.begun)
