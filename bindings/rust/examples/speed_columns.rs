@@ -292,6 +292,9 @@ fn plain_mask(name: &str, of: &Rows, validity: &[u8]) -> Vec<bool> {
         name if name.contains("begin") => rows_of(&bits_of_strings(text, offsets, |town| {
             town.starts_with(b"S")
         })),
+        name if name.contains("part") => rows_of(&bits_of_strings(text, offsets, |town| {
+            town.windows(2).any(|pair| pair == b"an")
+        })),
         _ => rows_of(&bits_of_strings(text, offsets, |town| town == b"Oslo")),
     }
 }
@@ -308,6 +311,7 @@ fn mask(name: &str, of: &Rows) -> Vec<bool> {
         name if name.contains("f64") => ("a > 5 and b <= 10000000".into(), vec![numbers, numbers]),
         name if name.contains("eight") => (format!("a in ('{listed}')"), vec![towns]),
         name if name.contains("begin") => ("a like 'S%'".into(), vec![towns]),
+        name if name.contains("part") => ("a like '%an%'".into(), vec![towns]),
         _ => ("a = 'Oslo'".into(), vec![towns]),
     };
     let kinds: Vec<(&str, Kind)> = ["a", "b"]
@@ -328,7 +332,7 @@ fn told_mask(rows: &[bool]) -> String {
 }
 
 /// What is measured, and the most that its ratio to plain Rust is to be.
-const AIMS: [(&str, f64); 19] = [
+const AIMS: [(&str, f64); 20] = [
     ("statistics of i64", 0.6),
     ("statistics of i64 with nulls", 0.9),
     ("statistics of i32", 0.6),
@@ -348,7 +352,20 @@ const AIMS: [(&str, f64); 19] = [
     ("mask of a town", 1.0),
     ("mask of eight towns", 1.0),
     ("mask of how towns begin", 1.0),
+    ("mask of a part of towns", 1.0),
 ];
+
+/// Tests of which the first passes one row in a hundred, in no order.
+const FIVE_TESTS: [&str; 5] = [
+    "a between 0 and 42949672",
+    "a <> 7",
+    "b <> 'Oslo'",
+    "b in ('Bergen', 'Trondheim', 'Stavanger', 'Drammen', 'Sandnes')",
+    "b like '%an%'",
+];
+
+/// The most time that these are to take together, by that of the dearest.
+const AIM_OF_FIVE: f64 = 2.0;
 
 /// The most time that statistics of f64 are to take, by that of i64.
 const AIM_OF_FLOATS: f64 = 1.3;
@@ -515,6 +532,23 @@ fn sort(of: &Rows) {
     });
 }
 
+/// Five tests in one filter, beside each alone.
+fn five_tests(of: &Rows) {
+    let columns = [column("i64", of), Column::utf8(&of.towns, &of.town_offsets)];
+    let kinds = [("a", columns[0].kind()), ("b", columns[1].kind())];
+    let time = |words: &str| {
+        let wanted = Filter::parse(words, &kinds).expect("a filter");
+        seconds(|| wanted.mask(&columns, ROWS).expect("sound columns"))
+    };
+    let dearest = FIVE_TESTS.iter().map(|test| time(test)).fold(0.0, f64::max);
+    let together = time(&FIVE_TESTS.join(" and "));
+    println!(
+        "Rust, five tests, the first of one row in a hundred, a million rows: {:.2} ms, {:.2} of the time of the dearest; the aim is {AIM_OF_FIVE}",
+        1e3 * together,
+        together / dearest
+    );
+}
+
 /// The bounds of two columns, neither of which has a null, on the rows of a zone.
 type Bounds<T> = [(T, T); 2];
 
@@ -614,6 +648,7 @@ fn main() {
         "Rust, statistics of f64, a million rows: {:.2} of the time of i64; the aim is {AIM_OF_FLOATS}",
         of_floats / of_integers
     );
+    five_tests(&made);
     outcomes(&made);
     sort(&made);
 }

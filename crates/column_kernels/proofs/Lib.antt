@@ -1,5 +1,6 @@
 pub mod CellSteps
 mod EvaluationSteps
+mod FloatSteps
 mod MaskSteps
 mod MemberSteps
 mod NeedleSteps

@@ -1,15 +1,47 @@
 //! Numbers that are compared with a literal.
 
-ghost use Rattle.std.specs.Prelude.{◌≡◌, ◌+◌, ◌*◌, ◌<◌, ◌≤◌, [], IfSome, Some, length, nat_eq, slice_index_or};
+ghost use Rattle.std.specs.Prelude.{◌≡◌, ◌+◌, ◌*◌, ◌<◌, ◌≤◌, [], IfSome, Some, length, nat_eq, slice_index_or, ℤ};
+ghost use Rattle.arrow_columns.specs.declared.kinds.ItemKind.{ItemKind};
 ghost use Rattle.column_kernels.specs.Words.{AreTruths, HasRows, Integer, compared, decimal_bytes, end_of, holds};
 ghost use Rattle.column_kernels.specs.Words.{if_value, int_cmp, nat_cmp, number_cell, number_of, slice_cmp};
 ghost use Rattle.column_kernels.specs.Words.{starts_with, tested, width_of, width_of_item};
 
+use crate::floats::Number64;
 use crate::validity::mark_null_rows;
 use arrow_columns::{Column, IntegerKind, Item, ItemKind, ItemRows, Storage32, Storage64};
 use logical_types::bytes_of_decimal;
 use truth_bitmaps::{TruthWord, write_rows};
 use vortex_filter::CompareOperator;
+
+/// A literal, as items of N bytes are compared with it.
+pub(crate) trait Comparand<const N: usize>: Copy + Drop {
+    ghost kind: { ItemKind };
+
+    ghost number: { Self → ℤ };
+
+    /// Whether an item with these bytes stands so to it.
+    fn holds(self, operator: CompareOperator, bytes: [u8; N]) -> bool
+        ensures { result ≡ holds operator (int_cmp (number_of kind bytes.entry) (number self)) };
+}
+
+/// A literal that is an item too.
+#[derive(Clone, Copy)]
+struct ItemLiteral<T> {
+    item: T,
+}
+
+impl<const N: usize, T: Item<N>> Comparand<N> for ItemLiteral<T> {
+    ghost kind = { T.kind };
+
+    ghost number = { λ literal. T.number literal.item };
+
+    #[inline(always)]
+    fn holds(self, operator: CompareOperator, bytes: [u8; N]) -> bool
+        ensures { result ≡ holds operator (int_cmp (number_of T.kind bytes.entry) (T.number self.item)) }
+    {
+        operator.holds(T::of_bytes(bytes).compare(self.item))
+    }
+}
 
 /// Compares so many numbers of a column, from a row on, with a literal.
 pub(crate) fn compare_numbers(
@@ -37,12 +69,14 @@ pub(crate) fn compare_numbers(
                 .map(|storage| Storage32 { storage });
             compare_items::<4, Storage32>(column, from, count, operator, literal, item, words);
         }
-        ItemKind::F64 => {
-            let item = i64::try_from(literal)
-                .ok()
-                .map(|storage| Storage64 { storage });
-            compare_items::<8, Storage64>(column, from, count, operator, literal, item, words);
-        }
+        ItemKind::F64 => match Number64::of(literal) {
+            Some(number) => {
+                compare_with::<8, Number64>(column, from, count, operator, number, words);
+            }
+            None => {
+                compare_outside::<8, Storage64>(column, from, count, operator, literal, words);
+            }
+        },
         ItemKind::I128 => {
             let item = Some(literal);
             compare_items::<16, i128>(column, from, count, operator, literal, item, words);
@@ -125,89 +159,124 @@ fn compare_items<const N: usize, T: Item<N>>(
         (number_cell N T.kind column.entry (from + row))) count words.new }
     ensures size { length words.new ≡ length words.old }
 {
-    let (items, _) = column.values.as_chunks::<N>();
-    let start = column.offset + from;
-    write_items::<N, T>(items, start, count, operator, literal, item, words);
-    mark_null_rows(column, from, count, words);
-}
-
-/// Writes how so many items, null or not, stand to a literal.
-fn write_items<const N: usize, T: Item<N>>(
-    items: &[[u8; N]],
-    start: usize,
-    count: usize,
-    operator: CompareOperator,
-    literal: i128,
-    item: Option<T>,
-    words: &mut [TruthWord],
-)
-    requires narrow { N ≤ 16 }
-    requires literal { IfSome item (λ x. T.number x ≡ literal) }
-    requires items { start + count ≤ length items.now }
-    requires words { count ≤ 64 * length words.old }
-    ensures truth { AreTruths (λ row. Some (holds operator (int_cmp
-        (number_of T.kind (slice_index_or items.now (start + row) [])) literal))) count words.new }
-    ensures size { length words.new ≡ length words.old }
-{
     match item {
-        Some(item) => write_compared::<N, T>(items, start, count, operator, item, words),
-        None => write_outside::<N, T>(items, start, count, operator, literal, words),
+        Some(item) => {
+            compare_with::<N, ItemLiteral<T>>(
+                column,
+                from,
+                count,
+                operator,
+                ItemLiteral { item },
+                words,
+            );
+        }
+        None => compare_outside::<N, T>(column, from, count, operator, literal, words),
     }
 }
 
+/// Compares so many items of N bytes with one that they are made to be compared with.
+fn compare_with<const N: usize, C: Comparand<N>>(
+    column: Column,
+    from: usize,
+    count: usize,
+    operator: CompareOperator,
+    literal: C,
+    words: &mut [TruthWord],
+)
+    requires some { 0 < N }
+    requires narrow { N ≤ 16 }
+    requires rows { HasRows column }
+    requires values { end_of column * N ≤ length column.values.now }
+    requires range { from + count ≤ column.length }
+    requires words { count ≤ 64 * length words.old }
+    ensures truth { AreTruths (λ row. compared operator (λ z. int_cmp z (C.number literal))
+        (number_cell N C.kind column.entry (from + row))) count words.new }
+    ensures size { length words.new ≡ length words.old }
+{
+    let (items, _) = column.values.as_chunks::<N>();
+    let start = column.offset + from;
+    write_compared::<N, C>(items, start, count, operator, literal, words);
+    mark_null_rows(column, from, count, words);
+}
+
+/// Compares so many items of N bytes with a number that none has.
+fn compare_outside<const N: usize, T: Item<N>>(
+    column: Column,
+    from: usize,
+    count: usize,
+    operator: CompareOperator,
+    literal: i128,
+    words: &mut [TruthWord],
+)
+    requires some { 0 < N }
+    requires narrow { N ≤ 16 }
+    requires rows { HasRows column }
+    requires values { end_of column * N ≤ length column.values.now }
+    requires range { from + count ≤ column.length }
+    requires words { count ≤ 64 * length words.old }
+    ensures truth { AreTruths (λ row. compared operator (λ z. int_cmp z literal)
+        (number_cell N T.kind column.entry (from + row))) count words.new }
+    ensures size { length words.new ≡ length words.old }
+{
+    let (items, _) = column.values.as_chunks::<N>();
+    let start = column.offset + from;
+    write_outside::<N, T>(items, start, count, operator, literal, words);
+    mark_null_rows(column, from, count, words);
+}
+
 /// Writes how so many items stand to one. Each arm is a loop of its own, with one operator.
-fn write_compared<const N: usize, T: Item<N>>(
+fn write_compared<const N: usize, C: Comparand<N>>(
     items: &[[u8; N]],
     start: usize,
     count: usize,
     operator: CompareOperator,
-    literal: T,
+    literal: C,
     words: &mut [TruthWord],
 )
     requires narrow { N ≤ 16 }
     requires items { start + count ≤ length items.now }
     requires words { count ≤ 64 * length words.old }
     ensures truth { AreTruths (λ row. Some (holds operator (int_cmp
-        (number_of T.kind (slice_index_or items.now (start + row) [])) (T.number literal)))) count words.new }
+        (number_of C.kind (slice_index_or items.now (start + row) [])) (C.number literal)))) count words.new }
     ensures size { length words.new ≡ length words.old }
 {
     match operator {
         CompareOperator::Eq => {
-            write_each::<N, T>(items, start, count, CompareOperator::Eq, literal, words);
+            write_each::<N, C>(items, start, count, CompareOperator::Eq, literal, words);
         }
         CompareOperator::NotEq => {
-            write_each::<N, T>(items, start, count, CompareOperator::NotEq, literal, words);
+            write_each::<N, C>(items, start, count, CompareOperator::NotEq, literal, words);
         }
         CompareOperator::Gt => {
-            write_each::<N, T>(items, start, count, CompareOperator::Gt, literal, words);
+            write_each::<N, C>(items, start, count, CompareOperator::Gt, literal, words);
         }
         CompareOperator::Gte => {
-            write_each::<N, T>(items, start, count, CompareOperator::Gte, literal, words);
+            write_each::<N, C>(items, start, count, CompareOperator::Gte, literal, words);
         }
         CompareOperator::Lt => {
-            write_each::<N, T>(items, start, count, CompareOperator::Lt, literal, words);
+            write_each::<N, C>(items, start, count, CompareOperator::Lt, literal, words);
         }
         CompareOperator::Lte => {
-            write_each::<N, T>(items, start, count, CompareOperator::Lte, literal, words);
+            write_each::<N, C>(items, start, count, CompareOperator::Lte, literal, words);
         }
     }
 }
 
 /// The same, inlined where the operator is known.
 #[inline(always)]
-fn write_each<const N: usize, T: Item<N>>(
+fn write_each<const N: usize, C: Comparand<N>>(
     items: &[[u8; N]],
     start: usize,
     count: usize,
     operator: CompareOperator,
-    literal: T,
+    literal: C,
     words: &mut [TruthWord],
 )
     requires narrow { N ≤ 16 }
     requires items { start + count ≤ length items.now }
     requires words { count ≤ 64 * length words.old }
     ensures truth { AreTruths (λ row. Some (holds operator (int_cmp
-        (number_of T.kind (slice_index_or items.now (start + row) [])) (T.number literal)))) count words.new }
+        (number_of C.kind (slice_index_or items.now (start + row) [])) (C.number literal)))) count words.new }
     ensures size { length words.new ≡ length words.old }
 {
     write_rows(
@@ -216,8 +285,8 @@ fn write_each<const N: usize, T: Item<N>>(
         |row: usize| -> bool
             requires { start + row < length items.now }
             ensures { result ≡ holds operator (int_cmp
-                (number_of T.kind (slice_index_or items.entry.now (start + row) [])) (T.number literal)) }
-        { operator.holds(T::of_bytes(items[start + row]).compare(literal)) },
+                (number_of C.kind (slice_index_or items.entry.now (start + row) [])) (C.number literal)) }
+        { literal.holds(operator, items[start + row]) },
     );
 }
 

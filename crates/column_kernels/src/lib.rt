@@ -8,6 +8,7 @@ mod booleans;
 mod bytes;
 mod comparing;
 mod evaluation;
+mod floats;
 mod items;
 mod listed;
 mod literals;

@@ -1,32 +1,16 @@
 use mir.Syntax.{w128}
-use Rattle.std.proofs.Common.{[], ◌≡◌, ◌∙◌, ◌+◌, ◌/◌, ◌<◌, Bool, IfSome, Some, ap, arith, length, of_z, slice_index_or, subst, sym, to_z, ℕ, ℤ}
+use Rattle.std.proofs.Common.{◌≡◌, ◌∙◌, ◌+◌, IfSome, ap, arith, of_z, subst, to_z}
 use Rattle.std.proofs.lemmas.Int.{ints}
-use Rattle.std.proofs.lemmas.Nat.{le-div}
 use Rattle.std.specs.Ordering.{int_cmp}
-use Rattle.arrow_columns.specs.Columns.{end_of}
-use Rattle.arrow_columns.specs.Integers.{item_at, number_of}
-use Rattle.truth_bitmaps.specs.Truths.{truth_at}
-use Rattle.vortex_filter.specs.Operators.{holds}
-use Rattle.column_kernels.proofs.CellSteps.{item-told, test-marked}
+use Rattle.column_kernels.specs.Truths.{compared, number_cell}
 use Rattle.column_kernels.proofs.items.compare_items.Goals as goal
 
-pub write_items-requires : goal.write_items-requires
-write_items-requires g c =
-    let within = le-div (end_of c.args.column) (length c.args.column.values.now) g.row.N c.requires.some c.requires.values in
-    let same : to_z w128 (of_z w128 c.args.literal) ≡ c.args.literal = omega (arith, ints) in
-    let literal = subst (λ z. IfSome c.args.item (λ x. g.T.Item.number x ≡ z)) (sym same) c.requires.literal in
-    (omega (arith, c.requires.narrow), (c.requires.narrow, (literal, (omega (arith, c.as_chunks.ensures.front_len, within, c.requires.range), c.requires.words))))
+pub returns-in-Some-clause-truth : goal.returns-in-Some-clause-truth
+returns-in-Some-clause-truth g c = λ row below.
+    let same = subst (λ o. IfSome o (λ x. g.T.Item.number x ≡ c.args.literal)) c.in-Some.is c.requires.literal in
+    c.compare_with.ensures.truth row below ∙ ap (λ z. compared c.args.operator (λ x. int_cmp x z) (number_cell g.row.N g.T.Item.kind c.args.column (c.args.from + row))) same
 
-pub returns-clause-truth : goal.returns-clause-truth
-returns-clause-truth g c = λ row below.
-    let column = c.args.column in
-    let test : ℤ → Bool = λ z. holds c.args.operator (int_cmp z c.args.literal) in
-    let value : ℕ → ℤ = λ i. number_of g.T.Item.kind (item_at g.row.N column.values.now i) in
-    let m : ℕ = length column.values.now / g.row.N in
-    let end = le-div (end_of column) (length column.values.now) g.row.N c.requires.some c.requires.values in
-    let within : column.offset + (c.args.from + row) < m = omega (arith, end, c.requires.range) in
-    let old = truth_at c.write_items.new.words row in
+pub returns-in-None-clause-truth : goal.returns-in-None-clause-truth
+returns-in-None-clause-truth g c = λ row below.
     let same : to_z w128 (of_z w128 c.args.literal) ≡ c.args.literal = omega (arith, ints) in
-    let item = slice_index_or c.as_chunks.result.0.now (column.offset + c.args.from + row) [] in
-    test-marked test column.validity.now value (column.offset + (c.args.from + row)) old _ (c.mark_null_rows.ensures.truth row below)
-    (item-told g.T.Item.kind g.row.N m column.values.now c.as_chunks.result.0.now test column.offset c.args.from row old c.as_chunks.ensures.front within (c.write_items.ensures.truth row below ∙ ap (λ z. Some (holds c.args.operator (int_cmp (number_of g.T.Item.kind item) z))) same))
+    c.compare_outside.ensures.truth row below ∙ ap (λ z. compared c.args.operator (λ x. int_cmp x z) (number_cell g.row.N g.T.Item.kind c.args.column (c.args.from + row))) same

@@ -13,9 +13,13 @@ pub returns-in-F32-clause-truth : goal.returns-in-F32-clause-truth
 returns-in-F32-clause-truth c =
     of-kind c.args.operator c.args.literal (to_z w128 (of_z w128 c.args.literal)) c.args.rows.now.kind F32 c.args.rows.now.column c.args.from c.args.count _ c.in-F32.is (omega (arith, ints)) c.compare_items.ensures.truth
 
-pub returns-in-F64-clause-truth : goal.returns-in-F64-clause-truth
-returns-in-F64-clause-truth c =
-    of-kind c.args.operator c.args.literal (to_z w128 (of_z w128 c.args.literal)) c.args.rows.now.kind F64 c.args.rows.now.column c.args.from c.args.count _ c.in-F64.is (omega (arith, ints)) c.compare_items-in-F64.ensures.truth
+pub returns-in-Some-clause-truth : goal.returns-in-Some-clause-truth
+returns-in-Some-clause-truth c =
+    of-kind c.args.operator c.args.literal c.in-Some.number.own.storage c.args.rows.now.kind F64 c.args.rows.now.column c.args.from c.args.count _ c.in-F64.is (omega (arith, ints, c.in-Some.ensures)) c.compare_with.ensures.truth
+
+pub returns-in-None-clause-truth : goal.returns-in-None-clause-truth
+returns-in-None-clause-truth c =
+    of-kind c.args.operator c.args.literal (to_z w128 (of_z w128 c.args.literal)) c.args.rows.now.kind F64 c.args.rows.now.column c.args.from c.args.count _ c.in-F64.is (omega (arith, ints)) c.compare_outside.ensures.truth
 
 pub returns-in-I128-clause-truth : goal.returns-in-I128-clause-truth
 returns-in-I128-clause-truth c =
