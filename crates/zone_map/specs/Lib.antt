@@ -1,3 +1,4 @@
 pub mod Answers
+pub mod Grown
 pub mod Lines
 pub mod Zones
