@@ -1,4 +1,6 @@
 pub mod Answers
+pub mod ColumnLists
+pub mod Errors
 pub mod Grown
 pub mod Lines
 pub mod Zones
