@@ -3,4 +3,5 @@ pub mod ColumnLists
 pub mod Errors
 pub mod Grown
 pub mod Lines
+pub mod Preparing
 pub mod Zones
