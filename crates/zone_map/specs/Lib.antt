@@ -4,4 +4,5 @@ pub mod Errors
 pub mod Grown
 pub mod Lines
 pub mod Preparing
+pub mod Telling
 pub mod Zones
