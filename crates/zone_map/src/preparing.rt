@@ -1,5 +1,13 @@
 //! The beginning of a stream is read, which says how its records are read.
 
+ghost use Rattle.std.specs.Prelude.{◌≡◌, ℕ, List, [], All, IfErr, IfOk, MatchBool, None, Some, is_some, map, true};
+ghost use Rattle.std.specs.Option.{option_copied};
+ghost use Rattle.csv_columns.specs.Names.{IsLine, texts};
+ghost use Rattle.csv_columns.specs.Setups.{IsDelimiter};
+ghost use Rattle.setup_guessing.specs.Columns.{AreGuessedWith, NeedsGuesses};
+ghost use Rattle.zone_index.specs.Errors.{IsOfStream};
+ghost use Rattle.zone_map.specs.Preparing.{IsBegun, IsPrepared, IsRead, byte_said, delimiter_said};
+
 use crate::column_lists::{NameText, columns_in, columns_text, columns_with};
 use crate::commands::Reading;
 use crate::program_errors::{About, BAD_DELIMITER, ProgramError};
@@ -27,35 +35,37 @@ pub struct Prepared {
 }
 
 /// Reads the header of a stream if it has one, and its first records if columns are to be guessed.
+///
+/// An error is about all files if what is said cannot be so: a delimiter that is none, a list of columns that is
+/// none, or a null of several lines.
 pub fn prepare<B: BufRead>(
     alloc: Global,
     reading: &Reading<'_>,
     reader: &mut B,
-) -> Result<Prepared, ProgramError> {
+) -> Result<Prepared, ProgramError>
+    ensures { IfOk result (IsPrepared reading.now (B.remaining reader.old) (B.remaining reader.new)) }
+{
     let delimiter = delimiter_in(reading.delimiter)?;
-    let given = match reading.columns {
-        Some(text) => columns_in(alloc, text)?,
-        None => Vec::new(alloc),
-    };
-    let header = first_records(alloc, delimiter, u64::from(reading.has_header), reader)?;
+    let given = columns_given(alloc, reading.columns)?;
     let nulls = null_words(alloc, &reading.nulls)?;
-    let guesses = needs_guesses(alloc, delimiter, &header, &given)?;
-    let guessed_from = if guesses { GUESSED_FROM } else { 0 };
-    let first = first_records(alloc, delimiter, guessed_from, reader)?;
+    let Begun {
+        header,
+        first,
+        guesses,
+    } = begin(alloc, delimiter, reading.has_header, &given, reader)?;
     let (columns, told) = if guesses {
         with_guessed(alloc, delimiter, &nulls, &header, &first, &given)?
     } else {
         (given, None)
     };
-    let numbers = Numbers {
-        delimiter: delimiter.byte,
-        is_lenient: reading.is_lenient,
-        bound_length: 0,
-        zone_rows: 0,
-    };
     Ok(Prepared {
         setup: Setup {
-            numbers,
+            numbers: Numbers {
+                delimiter: delimiter.byte,
+                is_lenient: reading.is_lenient,
+                bound_length: 0,
+                zone_rows: 0,
+            },
             nulls,
             columns,
         },
@@ -66,21 +76,52 @@ pub fn prepare<B: BufRead>(
 }
 
 /// The delimiter that a word says: one byte, `tab`, or `none`. Without a word it is a comma.
-fn delimiter_in(word: Option<&str>) -> Result<Delimiter, ProgramError> {
-    let byte = match word.unwrap_or(",").as_bytes() {
-        [byte] => *byte,
-        b"tab" => b'\t',
-        b"none" => NO_DELIMITER,
-        _ => return Err(ProgramError::fixed(About::AllFiles, BAD_DELIMITER)),
+fn delimiter_in(word: Option<&str>) -> Result<Delimiter, ProgramError>
+    ensures said { IfOk result (λ delimiter. delimiter_said (option_copied word.entry) ≡ Some delimiter.byte) }
+    ensures valid { IfOk result (λ delimiter. IsDelimiter delimiter.byte) }
+    ensures refused { IfErr result (λ _. (byte : ℕ) → delimiter_said (option_copied word.entry) ≡ Some byte
+        → ¬ (IsDelimiter byte)) }
+{
+    let said = match word {
+        Some(word) => byte_in(word.as_bytes()),
+        None => Some(b','),
     };
-    match Delimiter::new(byte) {
-        Some(delimiter) => Ok(delimiter),
+    match said {
+        Some(byte) => match Delimiter::new(byte) {
+            Some(delimiter) => Ok(delimiter),
+            None => Err(ProgramError::fixed(About::AllFiles, BAD_DELIMITER)),
+        },
         None => Err(ProgramError::fixed(About::AllFiles, BAD_DELIMITER)),
     }
 }
 
+/// The byte that a word says: the one that it has, `tab`, or `none`.
+fn byte_in(word: &[u8]) -> Option<u8>
+    ensures { result ≡ byte_said word.now }
+{
+    match word {
+        [byte] => Some(*byte),
+        b"tab" => Some(b'\t'),
+        b"none" => Some(NO_DELIMITER),
+        _ => None,
+    }
+}
+
+/// The columns that are given, if a text lists some.
+fn columns_given(alloc: Global, text: Option<&str>) -> Result<Vec<NamedColumn>, ProgramError>
+    ensures { IfOk result (λ given. text.entry ≡ None → given.items ≡ []) }
+{
+    match text {
+        Some(text) => columns_in(alloc, text),
+        None => Ok(Vec::new(alloc)),
+    }
+}
+
 /// The words that are nulls, each of one line.
-fn null_words(alloc: Global, words: &[&str]) -> Result<Vec<String>, ProgramError> {
+fn null_words(alloc: Global, words: &[&str]) -> Result<Vec<String>, ProgramError>
+    ensures words { IfOk result (λ nulls. texts nulls.items ≡ map (λ word. word.now) words.now) }
+    ensures lines { IfOk result (λ _. All IsLine (map (λ word. word.now) words.now)) }
+{
     let mut nulls = Vec::new(alloc);
     for word in words {
         if !is_line(word) {
@@ -91,13 +132,55 @@ fn null_words(alloc: Global, words: &[&str]) -> Result<Vec<String>, ProgramError
     Ok(nulls)
 }
 
+/// What was read of a stream.
+#[derive(Drop)]
+struct Begun {
+    /// The header, if it has one.
+    header: Vec<u8>,
+    /// The first records behind it, if columns are guessed.
+    first: Vec<u8>,
+    /// Whether columns are guessed.
+    guesses: bool,
+}
+
+/// Reads the header of a stream if it has one, and its first records if it is to be guessed what columns it
+/// has beside those that are given.
+fn begin<B: BufRead>(
+    alloc: Global,
+    delimiter: Delimiter,
+    has_header: bool,
+    given: &[NamedColumn],
+    reader: &mut B,
+) -> Result<Begun, ProgramError>
+    ensures begun { IfOk result (λ begun. (bytes : List ℕ) → B.remaining reader.old ≡ Some bytes
+        → IsBegun delimiter.byte has_header begun.guesses bytes begun.header.items begun.first.items
+        (B.remaining reader.new)) }
+    ensures guesses { IfOk result (λ begun. MatchBool begun.guesses
+        (NeedsGuesses delimiter.byte begun.header.items given.now)
+        (¬ (NeedsGuesses delimiter.byte begun.header.items given.now))) }
+{
+    let header = first_records(alloc, delimiter, u64::from(has_header), reader)?;
+    let guesses = needs_guesses(alloc, delimiter, &header, given)?;
+    let guessed_from = if guesses { GUESSED_FROM } else { 0 };
+    let first = first_records(alloc, delimiter, guessed_from, reader)?;
+    Ok(Begun {
+        header,
+        first,
+        guesses,
+    })
+}
+
 /// So many records of a stream, or all that are left.
 fn first_records<B: BufRead>(
     alloc: Global,
     delimiter: Delimiter,
     count: u64,
     reader: &mut B,
-) -> Result<Vec<u8>, SearchError> {
+) -> Result<Vec<u8>, SearchError>
+    ensures read { IfOk result (λ text. (bytes : List ℕ) → B.remaining reader.old ≡ Some bytes
+        → IsRead delimiter.byte count bytes text.items (B.remaining reader.new)) }
+    ensures why { IfErr result IsOfStream }
+{
     let mut text = Vec::new(alloc);
     if count > 0 {
         take_records(delimiter, count, &mut text, reader)?;
@@ -113,7 +196,11 @@ fn with_guessed(
     header: &[u8],
     first: &[u8],
     given: &[NamedColumn],
-) -> Result<(Vec<NamedColumn>, Option<String>), AllocError> {
+) -> Result<(Vec<NamedColumn>, Option<String>), AllocError>
+    ensures columns { IfOk result (λ made. AreGuessedWith delimiter.byte (texts nulls.now) header.now first.now
+        given.now made.0.items) }
+    ensures told { IfOk result (λ made. is_some made.1 ≡ true) }
+{
     let Guessed {
         columns,
         have_numbers,

@@ -1,5 +1,8 @@
 //! Why the program stops.
 
+ghost use Rattle.std.specs.Prelude.{◌≡◌, MatchResult, string_bytes};
+ghost use Rattle.zone_map.specs.Errors.{IsOutOfMemory, text_of};
+
 use csv_columns::NamedColumn;
 use filter_sql::ParseError;
 use std::alloc::{AllocError, AllocFailed, Global};
@@ -49,7 +52,10 @@ pub const BAD_DELIMITER: &str =
 
 impl ProgramError {
     /// The error of a text that is always the same.
-    pub fn fixed(about: About, text: &'static str) -> ProgramError {
+    pub fn fixed(about: About, text: &'static str) -> ProgramError
+        ensures about { result.about ≡ about }
+        ensures text { text_of result.text ≡ text.now }
+    {
         ProgramError {
             text: ErrorText::Fixed(text),
             about,
@@ -57,7 +63,10 @@ impl ProgramError {
     }
 
     /// The error of a text, if there was memory for it.
-    pub fn made(about: About, text: Result<String, AllocError>) -> ProgramError {
+    pub fn made(about: About, text: Result<String, AllocError>) -> ProgramError
+        ensures { MatchResult text
+            (λ said. (result.about ≡ about) × (text_of result.text ≡ string_bytes said)) (λ _. IsOutOfMemory result) }
+    {
         match text {
             Ok(text) => ProgramError {
                 text: ErrorText::Made(text),
@@ -83,12 +92,16 @@ impl ProgramError {
 }
 
 impl From<AllocError> for ProgramError {
+    ghost from_gives = { λ _ error. IsOutOfMemory error };
+
     fn from(_error: AllocError) -> ProgramError {
         ProgramError::fixed(About::File, NO_MEMORY)
     }
 }
 
 impl<T: Drop> From<AllocFailed<T>> for ProgramError {
+    ghost from_gives = { λ _ error. IsOutOfMemory error };
+
     fn from(_error: AllocFailed<T>) -> ProgramError {
         ProgramError::fixed(About::File, NO_MEMORY)
     }

@@ -1,5 +1,10 @@
 //! What a search by an index did is told, and what is wrong with one of several files.
 
+ghost use Rattle.std.specs.Prelude.{◌≡◌, ◌+◌, Some, length, option_map};
+ghost use Rattle.std.specs.Fmt.{WritesOnOk};
+ghost use Rattle.zone_index.specs.Sinks.{told};
+ghost use Rattle.zone_map.specs.Telling.{asked_length, new_text, told_text, zones_text};
+
 use crate::loading::Searched;
 use crate::program_errors::{About, NamedFault, ProgramError};
 use std::fmt::{self, Display, Formatter, Write};
@@ -56,7 +61,13 @@ impl Told {
         rest: Option<u64>,
         asked: &[Asked],
         compared: usize,
-    ) -> Told {
+    ) -> Told
+        ensures zones { result.zones ≡ length searched.now.index.zones.items }
+        ensures tally { result.tally ≡ found.tally }
+        ensures new_bytes { result.new_bytes ≡ option_map (λ _. found.new_bytes) rest }
+        ensures bytes { result.bytes ≡ told (asked_length asked.now + found.new_bytes) }
+        ensures index_bytes { result.index_bytes ≡ searched.now.read }
+    {
         let zones = &searched.index.zones;
         Told {
             zones: zones.len(),
@@ -71,30 +82,47 @@ impl Told {
 
 /// What became of the zones, and how many bytes were read.
 impl Display for Told {
+    ghost output = { λ t. Some (told_text t) };
+
     fn fmt<W: Write>(&self, f: &mut Formatter<W>) -> fmt::Result {
         write!(f, "zones {}", self.zones)?;
-        match self.tally {
-            Some(
-                Tally {
-                    skipped,
-                    copied,
-                    searched,
-                    found: _,
-                },
-            ) => write!(
-                f,
-                ", skipped {skipped}, copied {copied}, searched {searched}"
-            )?,
-            None => write!(f, ", searched {}", self.zones_read)?,
-        }
-        if let Some(bytes) = self.new_bytes {
-            write!(f, ", new bytes {bytes}")?;
-        }
+        write_zones(self.tally, self.zones_read, f)?;
+        write_new(self.new_bytes, f)?;
         write!(
             f,
             ", bytes read {}, index bytes {}",
             self.bytes, self.index_bytes
         )
+    }
+}
+
+/// Writes what became of the zones, or how many of them were read where that was not counted.
+fn write_zones<W: Write>(tally: Option<Tally>, read: usize, f: &mut Formatter<W>) -> fmt::Result
+    ensures { WritesOnOk W.write_str_gives f.old result (zones_text tally read) f.new }
+{
+    match tally {
+        Some(
+            Tally {
+                skipped,
+                copied,
+                searched,
+                found: _,
+            },
+        ) => write!(
+            f,
+            ", skipped {skipped}, copied {copied}, searched {searched}"
+        ),
+        None => write!(f, ", searched {read}"),
+    }
+}
+
+/// Writes how many bytes are new, if some are.
+fn write_new<W: Write>(new_bytes: Option<u64>, f: &mut Formatter<W>) -> fmt::Result
+    ensures { WritesOnOk W.write_str_gives f.old result (new_text new_bytes) f.new }
+{
+    match new_bytes {
+        Some(bytes) => write!(f, ", new bytes {bytes}"),
+        None => Ok(()),
     }
 }
 
@@ -114,7 +142,9 @@ fn begins_zone(zones: &[Zone], place: u64) -> bool {
 }
 
 /// How many bytes were asked for, as far as 64 bits count.
-fn bytes_asked(asked: &[Asked]) -> u64 {
+fn bytes_asked(asked: &[Asked]) -> u64
+    ensures { result ≡ told (asked_length asked.now) }
+{
     let mut read = 0u64;
     for one in asked {
         read = read.saturating_add(one.length);

@@ -37,7 +37,7 @@ returns-in_err-more-clause-answer g c =
     let decides = g.M.Matcher.decides c.args.matcher.now in
     let start = c.args.index.now.start in
     let zones = c.args.index.now.zones.items in
-    let ends : (end : ℕ) → Follow start zones end → c.end_of-place.result ≡ told end = rw (c.deref-2.ensures.value) at c.end_of-place.ensures in
+    let ends : (end : ℕ) → Follow start zones end → c.end_of-place.result ≡ told end = rw (c.deref-2.ensures.value) at c.end_of-place.ensures.follow in
     rw (p.1, p.2) (record {
       counted = tt;
       passed = tt;

@@ -51,7 +51,7 @@ returns-in_err-more-clause-answer g c =
     let first = first_number start in
     let number = c.number_after.result in
     let number_is : number ≡ told (first + records_in zones) = rw (c.deref-3.ensures.value, c.first_row-first.ensures.number) at c.number_after.ensures in
-    let ends : (end : ℕ) → Follow start zones end → c.end_of.result ≡ told end = rw (c.deref-2.ensures.value) at c.end_of.ensures in
+    let ends : (end : ℕ) → Follow start zones end → c.end_of.result ≡ told end = rw (c.deref-2.ensures.value) at c.end_of.ensures.follow in
     rw (p.1, p.2) (record {
       written = tt;
       rows = tt;

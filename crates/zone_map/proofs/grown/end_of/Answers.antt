@@ -4,8 +4,8 @@ use Rattle.std.specs.Prelude.{slice_get}
 use Rattle.zone_map.proofs.Joining.{last_end}
 use Rattle.zone_map.proofs.grown.end_of.Goals as goal
 
-pub returns-in-Some : goal.returns-in-Some
-returns-in-Some c = λ end follow.
+pub returns-in-Some-clause-follow : goal.returns-in-Some-clause-follow
+returns-in-Some-clause-follow c = λ end follow.
     let zones = c.args.zones.now in
     let zone = c.in-Some.zone.now in
     let at : slice_get zones (length zones - 1) ≡ Some zone = sym c.in-Some.ensures.value in
