@@ -1,3 +1,4 @@
 mod Repeated
 mod Rows
 mod EqualColumns
+mod FoldingLaws

@@ -7,10 +7,11 @@ use Rattle.vortex_dtype.specs.declared.ptype.PType.TheVariants.{I16, I32}
 use Rattle.vortex_value.specs.Values.Content.{null, whole}
 use Rattle.vortex_value.specs.declared.scalars.Scalar.{Scalar}
 use Rattle.vortex_cells.specs.Cells.{Cell, cell_of}
-use Rattle.vortex_filter.specs.Formula.{comparison, negation}
+use Rattle.vortex_filter.specs.Formula.{both, comparison, constant, negation, null_test}
 use Rattle.vortex_filter.specs.declared.operator.CompareOperator.TheVariants.{Gt, Lt}
 use Rattle.vortex_filter.specs.declared.truth.Truth.TheVariants.{Unknown, True}
 use Rattle.constant_arrays.specs.declared.array.ConstantArray.{ConstantArray}
+use Rattle.constant_arrays.specs.Folding.{folded}
 use Rattle.constant_arrays.specs.Items.{casts, comparisons, items, row_keys, truths}
 
 -- the array that has this scalar in so many rows
@@ -66,3 +67,12 @@ nulls_last = refl
 
 keys_of_fives : row_keys (record { descending = true; nulls_first = true }) (number 5 ∷ number 5 ∷ []) ≡ (242 ∷ 250 ∷ []) ∷ (242 ∷ 250 ∷ []) ∷ []
 keys_of_fives = refl
+
+-- ---- constant columns of a table
+
+-- the first column is constant
+five_above_three : folded (true ∷ []) (number 5 ∷ []) (both (comparison 0 Gt (number 3)) (null_test 1)) ≡ both (constant True) (null_test 1)
+five_above_three = refl
+
+no_constants : folded [] (number 5 ∷ []) (comparison 0 Gt (number 3)) ≡ comparison 0 Gt (number 3)
+no_constants = refl

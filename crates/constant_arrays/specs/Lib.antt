@@ -1,4 +1,5 @@
 pub mod Examples
+pub mod Folding
 pub mod Items
 pub mod Laws
 pub mod Words

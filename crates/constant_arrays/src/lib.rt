@@ -10,9 +10,11 @@ mod array;
 mod casting;
 mod error;
 mod filtering;
+mod folding;
 mod keys;
 pub mod laws;
 mod statistics;
 
 pub use array::ConstantArray;
 pub use error::ConstantArrayError;
+pub use folding::fold_constants;
