@@ -1,0 +1,4 @@
+pub mod Equality
+pub mod LiteralSteps
+pub mod Soundness
+pub mod Steps

@@ -1,0 +1,4 @@
+pub mod Filters
+pub mod Laws
+pub mod Predicates
+pub mod Words
