@@ -1,5 +1,5 @@
 -- Where a literal stands in a column whose type has bytes: at a cell that has bytes, or just above one.
-use Rattle.std.proofs.Common.{◌≡◌, ◌∙◌, ◌<◌, ◌^◌, inl, inr, ℕ, ℤ, List, Some, ap, refl, subst, sym, unsigned_abs}
+use Rattle.std.proofs.Common.{◌≡◌, ◌∙◌, ◌<◌, ◌^◌, inl, inr, true, false, ℕ, ℤ, List, Option, None, Some, ap, refl, subst, sym, unsigned_abs}
 use Rattle.vortex_dtype.specs.TypeTree.{TypeTree, as_nullable, binary_type, bool_type, erase, extension_type, integer_type, null_type, utf8_type}
 use Rattle.vortex_value.specs.Equality.{HasNoTyped}
 use Rattle.vortex_cells.specs.Cells.{Cell}
@@ -12,7 +12,8 @@ use Rattle.logical_types.specs.declared.extensions.StorageType.{StorageType}
 use Rattle.logical_types.specs.declared.extensions.StorageType.TheVariants.{I32, I64, Bytes}
 use Rattle.logical_types.specs.declared.logical.LogicalType.{LogicalType}
 use Rattle.logical_types.specs.declared.logical.LogicalType.TheVariants.{Float64, Float32, Decimal, Date, Time, Timestamp}
-use Rattle.vortex_filter.specs.Literals.{LiteralTree, bytes_literal, decimal_at, logical_cell, null_cell, null_literal, number_literal, number_of_shape, position_of, storage_content, text_literal, text_of_shape, truth_literal, written_value}
+use Rattle.logical_types.specs.declared.times.TimeUnit.{TimeUnit}
+use Rattle.vortex_filter.specs.Literals.{LiteralTree, bytes_literal, decimal_at, instant_in, logical_cell, null_cell, null_literal, number_literal, number_of_shape, option_or, position_of, storage_content, text_literal, text_of_shape, truth_literal, written_value}
 use Rattle.vortex_filter.specs.Positions.{PositionTree, exactly, just_above, lacking}
 use Rattle.vortex_filter.proofs.LiteralTypes.{TypesSay, WordsSay, storage_is}
 use Rattle.vortex_filter.proofs.PositionLaws.{CellFits}
@@ -100,6 +101,26 @@ decimal-value Date precision scale z e h = absurd cc
 decimal-value (Time unit) precision scale z e h = absurd cc
 decimal-value (Timestamp unit is_zoned) precision scale z e h = absurd cc
 
+-- and so is that of an instant
+instant-value : (l : LogicalType) (unit : TimeUnit) (z : ℤ) → timestamps unit true ≡ shape_of l → IsStorageOf (Timestamp unit true) z → IsStorageOf l z
+instant-value (Timestamp other is_zoned) unit z e h = let same : unit ≡ other = cc in subst (λ (u : TimeUnit). IsStorageOf (Timestamp u is_zoned) z) same h
+instant-value Float64 unit z e h = absurd cc
+instant-value Float32 unit z e h = absurd cc
+instant-value (Decimal d) unit z e h = absurd cc
+instant-value Date unit z e h = absurd cc
+instant-value (Time other) unit z e h = absurd cc
+
+instant-written : WordsSay → (unit : TimeUnit) (word : List ℕ) (z : ℤ) → instant_in unit word ≡ Some z → IsStorageOf (Timestamp unit true) z
+instant-written words unit word z e = by_first (storage_in (timestamps unit true) word) refl
+  where
+    by_first : (o : Option ℤ) → storage_in (timestamps unit true) word ≡ o → IsStorageOf (Timestamp unit true) z
+    by_first (Some y) h =
+        let said : Some y ≡ Some z = sym (ap (λ (q : Option ℤ). option_or q (storage_in (timestamps unit false) word)) h) ∙ e in
+        value-written (Timestamp unit true) word z ((words (Timestamp unit true) word z).0 (h ∙ said))
+    by_first None h =
+        let said : storage_in (timestamps unit false) word ≡ Some z = sym (ap (λ (q : Option ℤ). option_or q (storage_in (timestamps unit false) word)) h) ∙ e in
+        value-written (Timestamp unit false) word z ((words (Timestamp unit false) word z).0 said)
+
 module _ (say : TypesSay) (words : WordsSay) (t : TypeTree) (plain : IsPlain t) where
   -- the cell with a storage that each logical type of this shape has
   value-plain : (s : Shape) (z : ℤ) → shape_in t ≡ Some s → ((l : LogicalType) → s ≡ shape_of l → IsStorageOf l z) → IsPlainCell (logical_cell t s z)
@@ -138,7 +159,10 @@ module _ (say : TypesSay) (words : WordsSay) (t : TypeTree) (plain : IsPlain t) 
   text-plain (decimals precision scale) word p shaped e = number-plain (decimals precision scale) word p shaped e
   text-plain days word p shaped e = written-plain days word p shaped e
   text-plain (times unit) word p shaped e = written-plain (times unit) word p shaped e
-  text-plain (timestamps unit is_zoned) word p shaped e = written-plain (timestamps unit is_zoned) word p shaped e
+  text-plain (timestamps unit false) word p shaped e = written-plain (timestamps unit false) word p shaped e
+  text-plain (timestamps unit true) word p shaped e =
+      let m = map_some (instant_in unit word) (λ (z : ℤ). exactly (logical_cell t (timestamps unit true) z)) p e in
+      subst IsPlainSaid m.2 (value-plain (timestamps unit true) m.0 shaped (λ l same. instant-value l unit m.0 same (instant-written words unit word m.0 m.1)))
 
 extension-said : TypesSay → WordsSay → (id metadata : List ℕ) (u : TypeTree) → IsPlain (extension_type id metadata u) → AreSaid (extension_type id metadata u)
 extension-said say words id metadata u h null_literal p e = said-as (exactly (null_cell (extension_type id metadata u))) p e (null-plain id metadata u h)
